@@ -1,0 +1,3 @@
+pub mod LoopLaws
+pub mod TaskLaws
+pub mod TableLaws

@@ -1,0 +1,5 @@
+-- 01, "Sizes". The limits belong to the model: this is the definitions' one copy of each number, and `Model::limits` returns it.
+use Rattle.task.specs.declared.Limits.{Limits}
+
+abbrev pub limits : Limits
+limits = record { columns = 16; positions = 32; steps = 128; blocks = 256; «no_way» = 16777215 }
