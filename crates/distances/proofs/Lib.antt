@@ -1,0 +1,5 @@
+pub mod OrderLaws
+pub mod PigeonLaws
+pub mod LeastLaws
+pub mod TableLaws
+pub mod EstimateLaws

@@ -1,0 +1,3 @@
+pub mod TraceLaws
+pub mod FlawLaws
+pub mod RunLaws
