@@ -1,0 +1,1 @@
+// What the customer asks, as theorems: no function stands here.
