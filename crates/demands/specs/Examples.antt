@@ -16,7 +16,6 @@ use Rattle.run.specs.Run.{Outcome, Answer, plan, noPlan, «open», rowsOf}
 -- ---- how the examples are written down
 
 infix 80 _⇒_
-
 -- a column: its size, its start, its goal
 abbrev sized : ℕ → ℕ → Option ℕ → ColumnEntry
 sized n s g = record { size = n; start = position s; goal = Option·map position g }
