@@ -1,6 +1,6 @@
 -- There are at most as many blocks as states: each block holds a state, and no state is in two.
 use mathlib.Core.Path.{_≡_, refl, sym, ap, ap₂, _∙_}
-use mathlib.Core.Logic.{_⊎_, inl, inr, ⊎-elim, _≢_}
+use mathlib.Core.Logic.{_⊎_, ⊎-elim, _≢_}
 use mathlib.Core.Bool.{Bool, true, false, _&&_, not}
 use mathlib.Core.List.{List, [], _∷_, _++_}
 use Prim.Native.Nat.{ℕ, zero, suc, _+_, _*_, _≤_, _<_, zero-le, suc-le-suc}
@@ -9,7 +9,6 @@ use native.Mathlib.Omega.{arith}
 use lib.ListN.{length, getD, set}
 use borrow.Author.Tests.{lt-ltb}
 use Rattle.task.specs.declared.Column.{Column}
-use Rattle.task.specs.declared.Block.{Block}
 use Rattle.task.specs.Loops.{prod}
 use Rattle.task.specs.Task.{Task, Accepted, column, position, block, columnCount, sizeOf, stateCount}
 use Rattle.task.proofs.LoopLaws.{below-suc, and-left, and-right}

@@ -1,23 +1,23 @@
 -- Block 0 alone parts the states, and so do the blocks of any accepted list of cuts; there is one block more than cuts.
 use mathlib.Core.Path.{_≡_, refl, sym, ap, _∙_}
-use mathlib.Core.Bool.{Bool, true, false, _&&_}
+use mathlib.Core.Bool.{true}
 use mathlib.Core.List.{List, [], _∷_, _++_}
-use mathlib.Core.Option.{Option, none, some}
-use Prim.Native.Nat.{ℕ, zero, suc, _+_, _≤_, _<_}
+use mathlib.Core.Option.{Option, some}
+use Prim.Native.Nat.{ℕ, suc, _+_, _<_}
 use native.Mathlib.Omega.{arith}
-use lib.ListN.{length, getD, length-append}
+use lib.ListN.{length}
 use borrow.Author.Tests.{ltb-true, lt-ltb}
 use Rattle.task.specs.declared.Column.{Column}
 use Rattle.task.specs.declared.Block.{Block}
 use Rattle.task.specs.Loops.{first, when}
-use Rattle.task.specs.Task.{Task, State, Accepted, block, at, columnCount, sizeOf, isState, perColumn}
+use Rattle.task.specs.Task.{Task, State, Accepted, block, at, columnCount, sizeOf, isState}
 use Rattle.task.proofs.LoopLaws.{and-left, and-right, and-both, first-some, first-found, when-some}
 use Rattle.task.proofs.TaskLaws.{columns-pass, per-length, per-at, position-below}
 use Rattle.blocks.specs.declared.Cut.{Cut}
-use Rattle.blocks.specs.Blocks.{PositionSet, Sets, Blocks, holds, every, isEmpty, setAt, blockAt, cutBlock, inBlock, whole, cutOk, cutsOk, cutAll, accepted, blocksOf, blockOf}
+use Rattle.blocks.specs.Blocks.{PositionSet, Blocks, holds, every, setAt, blockAt, cutBlock, inBlock, whole, cutOk, cutsOk, cutAll, accepted, blocksOf, blockOf}
 use Rattle.blocks.proofs.SetLaws.{holds-every, held-some}
 use Rattle.blocks.proofs.LeadLaws.{Shaped}
-use Rattle.blocks.proofs.PartLaws.{Parts, CutFits, fits, cut-parts, cut-length}
+use Rattle.blocks.proofs.PartLaws.{Parts, fits, cut-parts, cut-length}
 
 module _ (t : Task) (v : Accepted t) where
   pub whole-set : (j : Column) → j .0 < columnCount t → setAt (whole t) j ≡ every (sizeOf t j)

@@ -1,15 +1,15 @@
 -- The tests of column after column say what they are for: a step leads from block to block exactly where some state of the one can take it and
 -- lands in the other, and a goal block is one that contains a goal state. So what leads, still leads between larger blocks.
-use mathlib.Core.Path.{_≡_, refl, sym, ap, _∙_}
-use mathlib.Core.Logic.{_⊎_, inl, inr, ⊎-elim, _↔_}
-use mathlib.Core.Bool.{Bool, true, false, _&&_, not}
-use mathlib.Core.List.{List, [], _∷_, _++_}
+use mathlib.Core.Path.{_≡_, refl, ap, _∙_}
+use mathlib.Core.Logic.{_⊎_, ⊎-elim, _↔_}
+use mathlib.Core.Bool.{true, false}
+use mathlib.Core.List.{[], _∷_, _++_}
 use mathlib.Core.Option.{Option, none, some}
-use Prim.Native.Nat.{ℕ, zero, suc, _+_, _≤_, _<_}
+use Prim.Native.Nat.{ℕ, zero, suc, _+_, _<_}
 use native.Mathlib.Nat.{not-suc-le-zero}
 use native.Mathlib.Omega.{arith}
 use native.Mathlib.Numerals.{add-one}
-use lib.ListN.{length, getD, length-append, List·getD-append}
+use lib.ListN.{length, length-append, List·getD-append}
 use lib.Seq.{getD-at}
 use borrow.Author.Tests.{eqb-true, eq-eqb, not-true}
 use Rattle.task.specs.declared.Column.{Column}
@@ -18,7 +18,7 @@ use Rattle.task.specs.declared.Step.{Step}
 use Rattle.task.specs.Task.{Task, State, column, position, at, columnCount, sizeOf, needAt, effectAt, goalAt, meets, changed, isState, canTake, taken, isGoal}
 use Rattle.task.proofs.LoopLaws.{and-left, and-right, and-both, below-suc}
 use Rattle.task.proofs.TaskLaws.{column-passes, columns-pass, taken-at, state-intro}
-use Rattle.blocks.specs.Blocks.{PositionSet, Sets, holds, common, isEmpty, leadsAt, goalIn, setAt, inBlock, goalBlock, leads}
+use Rattle.blocks.specs.Blocks.{PositionSet, Sets, holds, isEmpty, leadsAt, goalIn, setAt, inBlock, goalBlock, leads}
 use Rattle.blocks.proofs.SetLaws.{PartOf, some-held, in-common, common-held}
 
 -- ---- one column

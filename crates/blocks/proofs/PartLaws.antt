@@ -1,25 +1,24 @@
 -- The blocks part the states: every state is in one block and no two, and an accepted cut keeps that.
 use mathlib.Core.Path.{_≡_, refl, sym, ap, _∙_}
 use mathlib.Core.Logic.{_⊎_, inl, inr, ⊎-elim, _≢_}
-use mathlib.Core.Bool.{Bool, true, false, _&&_, not, cond}
-use mathlib.Core.List.{List, [], _∷_, _++_}
-use Prim.Native.Nat.{ℕ, zero, suc, _+_, _≤_, _<_}
+use mathlib.Core.Bool.{Bool, true, false, not, cond}
+use mathlib.Core.List.{[], _∷_, _++_}
+use Prim.Native.Nat.{ℕ, suc, _+_, _<_}
 use native.Mathlib.Decide.{ℕ-discrete}
 use native.Mathlib.Omega.{arith}
 use native.Mathlib.Numerals.{add-one}
-use lib.ListN.{length, getD, set, length-set, length-append, List·getD-append}
+use lib.ListN.{length, set, length-set, length-append, List·getD-append}
 use lib.Seq.{getD-set-same, getD-set-other, getD-at}
-use lib.Dec.{ltb}
 use borrow.Author.Tests.{ltb-true, lt-ltb, not-true}
 use Rattle.task.specs.declared.Column.{Column}
 use Rattle.task.specs.declared.Position.{Position}
 use Rattle.task.specs.declared.Block.{Block}
-use Rattle.task.specs.Task.{Task, State, column, block, at, columnCount, sizeOf, isState}
+use Rattle.task.specs.Task.{Task, State, column, block, at, columnCount, isState}
 use Rattle.task.proofs.LoopLaws.{and-five, and-left, and-right, and-both, true-or-false, below-suc}
 use Rattle.task.proofs.TaskLaws.{columns-pass}
 use Rattle.blocks.specs.declared.Cut.{Cut}
 use Rattle.blocks.specs.Blocks.{PositionSet, Sets, Blocks, holds, common, without, isEmpty, setAt, blockAt, withSet, cutBlock, inBlock, cutOk}
-use Rattle.blocks.proofs.SetLaws.{PartOf, holds-common, holds-without, held-some, some-held, common-held, part-of, is-part}
+use Rattle.blocks.proofs.SetLaws.{PartOf, holds-common, holds-without, some-held, common-held, part-of, is-part}
 use Rattle.blocks.proofs.LeadLaws.{Shaped, Within, held-at, in-within}
 
 -- the same number or not, as a case

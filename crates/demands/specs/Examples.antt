@@ -1,6 +1,6 @@
 -- The examples that 01 marks P, as one statement over one list, and after them models on which a wrong reading of the rules would show.
 use mathlib.Core.Path.{_≡_, refl}
-use mathlib.Core.List.{List, [], _∷_, map}
+use mathlib.Core.List.{List, [], _∷_, _++_, map}
 use mathlib.Core.Option.{Option, none, some, Option·map}
 use Prim.Native.Nat.{ℕ}
 use Rattle.task.specs.Loops as loops
@@ -37,31 +37,37 @@ cut b j w = record { block = block b; column = column j; wanted = w }
 abbrev row : ℕ → ℕ → ℕ → Row
 row s n l = record { step = step s; tenths = n; left = l }
 
--- what is asked: a model, a room, and states whose estimates are wanted after the run's cuts
-pub record Asked : Type 0 where
+-- an example: what is asked, a model, a room and states whose estimates are wanted after the run's cuts;
+-- and what is told, the answer, the cuts, the rows and the estimates
+pub record Example : Type 0 where
   pub model : Task
   pub room : ℕ
-  pub states : List (List ℕ)
-
--- what is told: the answer, the cuts, the rows, the estimates
-pub record Told : Type 0 where
+  pub states : List State
   pub outcome : Outcome
   pub rows : List Row
   pub estimates : List (Option Tenths)
 
-abbrev ask : Task → ℕ → List (List ℕ) → Asked
-ask t n l = record { model = t; room = n; states = l }
+abbrev asking : List (List ℕ) → List (Option Tenths) → Task → ℕ → Answer → List Cut → List Row → Example
+asking xs es t n a cs rs = record { model = t; room = n; states = map (map position) xs; outcome = record { answer = a; made = cs }; rows = rs; estimates = es }
 
-abbrev tell : Answer → List Cut → List Row → List (Option Tenths) → Told
-tell a cs rs l = record { outcome = record { answer = a; made = cs }; rows = rs; estimates = l }
+abbrev running : Task → ℕ → Answer → List Cut → List Row → Example
+running = asking [] []
 
 abbrev steps : List ℕ → Answer
 steps l = plan (map step l)
 
-pub answer : Asked → Told
-answer q =
-    let o = run.run (q .model) (q .room) in
-    record { outcome = o; rows = rowsOf (q .model) (o .answer); estimates = map (λ x. distances.estimate (q .model) (o .made) (map position x)) (q .states) }
+-- the same example, with what the definitions tell
+pub answered : Example → Example
+answered e =
+    let o = run.run (e .model) (e .room) in
+    record {
+      model = e .model;
+      room = e .room;
+      states = e .states;
+      outcome = o;
+      rows = rowsOf (e .model) (o .answer);
+      estimates = map (distances.estimate (e .model) (o .made)) (e .states);
+    }
 
 -- ---- the small re-thread
 
@@ -109,38 +115,45 @@ free = record { columns = sized 2 0 (some 1) ∷ []; steps = costing 0 (some 0 �
 abbrev one : Option ℕ → Task
 one g = record { columns = sized 1 0 g ∷ []; steps = [] }
 
+-- the chain that attains the largest distance: column 0 is gone through from end to end for each position of column 1
+abbrev chain : Task
+chain = record {
+  columns = sized 4 0 (some 3) ∷ sized 2 0 (some 1) ∷ [];
+  steps =
+      costing 65535 (some 0 ⇒ some 1 ∷ kept ∷ [])
+      ∷ costing 65535 (some 1 ⇒ some 2 ∷ kept ∷ [])
+      ∷ costing 65535 (some 2 ⇒ some 3 ∷ kept ∷ [])
+      ∷ costing 65535 (some 3 ⇒ some 0 ∷ some 0 ⇒ some 1 ∷ [])
+      ∷ [];
+}
+
+abbrev chainCuts : List Cut
+chainCuts = cut 0 0 8 ∷ cut 0 0 4 ∷ cut 0 0 2 ∷ cut 1 1 2 ∷ cut 2 1 2 ∷ cut 3 1 2 ∷ []
+
+abbrev chainRows : List Row
+chainRows = row 0 65535 393210 ∷ row 1 65535 327675 ∷ row 2 65535 262140 ∷ row 3 65535 196605 ∷ row 0 65535 131070 ∷ row 1 65535 65535 ∷ row 2 65535 0 ∷ []
+
 -- ---- the statement
 
-pub asked : List Asked
-asked =
-    ask rethread 1 []
-    ∷ ask rethread 2 []
-    ∷ ask rethread 3 []
-    ∷ ask rethread 4 []
-    ∷ ask rethread 5 ((1 ∷ 0 ∷ []) ∷ (0 ∷ 1 ∷ []) ∷ (0 ∷ 2 ∷ []) ∷ [])
-    ∷ ask withoutTape 5 []
-    ∷ ask withoutTape 4 []
-    ∷ ask free 2 []
-    ∷ ask (one none) 1 []
-    ∷ ask (one (some 0)) 1 []
+pub list : List Example
+list =
+    running rethread 1 («open» 0) [] []
+    ∷ running rethread 2 («open» 50) (c1 ∷ []) []
+    ∷ running rethread 3 («open» 70) (c1 ∷ c2 ∷ []) []
+    ∷ running rethread 4 («open» 70) (c1 ∷ c2 ∷ c3 ∷ []) []
+    ∷ asking ((1 ∷ 0 ∷ []) ∷ (0 ∷ 1 ∷ []) ∷ (0 ∷ 2 ∷ []) ∷ []) (some 110 ∷ some 70 ∷ some 0 ∷ [])
+    rethread 5 (steps (2 ∷ 0 ∷ 3 ∷ [])) (c1 ∷ c2 ∷ c3 ∷ c4 ∷ []) (row 2 30 70 ∷ row 0 20 50 ∷ row 3 50 0 ∷ [])
+    ∷ running withoutTape 5 noPlan (c1 ∷ c2 ∷ c3 ∷ c4 ∷ []) []
+    ∷ running withoutTape 4 («open» 70) (c1 ∷ c2 ∷ c3 ∷ []) []
+    ∷ running free 2 (steps (1 ∷ [])) (cut 0 0 2 ∷ []) (row 1 0 0 ∷ [])
+    ∷ running (one none) 1 (steps []) [] []
+    ∷ running (one (some 0)) 1 (steps []) [] []
+    ∷ running chain 8 (steps (0 ∷ 1 ∷ 2 ∷ 3 ∷ 0 ∷ 1 ∷ 2 ∷ [])) (chainCuts ++ (cut 0 1 2 ∷ [])) chainRows
+    ∷ running chain 7 («open» 196605) chainCuts []
     ∷ []
 
-pub told : List Told
-told =
-    tell («open» 0) [] [] []
-    ∷ tell («open» 50) (c1 ∷ []) [] []
-    ∷ tell («open» 70) (c1 ∷ c2 ∷ []) [] []
-    ∷ tell («open» 70) (c1 ∷ c2 ∷ c3 ∷ []) [] []
-    ∷ tell (steps (2 ∷ 0 ∷ 3 ∷ [])) (c1 ∷ c2 ∷ c3 ∷ c4 ∷ []) (row 2 30 70 ∷ row 0 20 50 ∷ row 3 50 0 ∷ []) (some 110 ∷ some 70 ∷ some 0 ∷ [])
-    ∷ tell noPlan (c1 ∷ c2 ∷ c3 ∷ c4 ∷ []) [] []
-    ∷ tell («open» 70) (c1 ∷ c2 ∷ c3 ∷ []) [] []
-    ∷ tell (steps (1 ∷ [])) (cut 0 0 2 ∷ []) (row 1 0 0 ∷ []) []
-    ∷ tell (steps []) [] [] []
-    ∷ tell (steps []) [] [] []
-    ∷ []
-
-pub examples : map answer asked ≡ told
-unfolding answer asked told
+pub examples : map answered list ≡ list
+unfolding answered list
     loops.all loops.first loops.tab
     task.columnCount task.stepCount task.sizeOf task.startAt task.goalAt task.costOf task.changeAt task.needAt task.effectAt task.eachColumn task.perColumn
     task.at task.meets task.changed task.start task.canTake task.taken task.isGoal task.costs

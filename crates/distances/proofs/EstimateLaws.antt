@@ -1,10 +1,10 @@
 -- Estimates: each is the distance of its state's block; none is above the cost of a plan from there; along a step it falls by at most the step's
 -- cost; and no cut makes one fall.
 use mathlib.Core.Path.{_≡_, refl, sym, ap, _∙_, subst}
-use mathlib.Core.Bool.{Bool, true, false}
+use mathlib.Core.Bool.{true}
 use mathlib.Core.List.{List, [], _∷_, _++_}
-use mathlib.Core.Option.{Option, none, some, Option·map, Option·getD}
-use Prim.Native.Nat.{ℕ, zero, suc, _+_, _*_, _≤_, _<_}
+use mathlib.Core.Option.{Option, none, some, Option·map}
+use Prim.Native.Nat.{ℕ, suc, _+_, _*_, _≤_, _<_}
 use native.Mathlib.Omega.{arith}
 use lib.ListN.{length}
 use Rattle.task.specs.declared.Step.{Step}
@@ -13,11 +13,11 @@ use Rattle.task.specs.Sizes.{limits}
 use Rattle.task.specs.Task.{Task, State, Tenths, Accepted, block, stepCount, costOf, isState, isGoal, canTake, taken, reaches, costs}
 use Rattle.task.proofs.TaskLaws.{taken-state, first-step}
 use Rattle.blocks.specs.declared.Cut.{Cut}
-use Rattle.blocks.specs.Blocks.{Blocks, blockAt, inBlock, leads, goalBlock, cutBlock, cutOk, accepted, blocksOf, blockOf}
+use Rattle.blocks.specs.Blocks.{Blocks, blockAt, leads, cutBlock, cutOk, accepted, blocksOf}
 use Rattle.blocks.proofs.LeadLaws.{in-within, leads-sound, leads-mono, goal-sound, goal-mono}
 use Rattle.blocks.proofs.PartLaws.{Parts, CutFits, Origin, origin, fits, cut-parts}
 use Rattle.blocks.proofs.CutLaws.{BlockIs, block-of, accepted-parts, blocks-more, blocks-length}
-use Rattle.distances.specs.Distances.{Distance, Hop, AtMost, IsDistance, DistanceIs, NoMore, number, noWay, leadsTo, isPath, far, farOf, plus, zeroFar, distances, stateFar, estimate}
+use Rattle.distances.specs.Distances.{Distance, Hop, IsDistance, DistanceIs, NoMore, number, noWay, leadsTo, isPath, far, farOf, plus, zeroFar, distances, stateFar, estimate}
 use Rattle.distances.proofs.OrderLaws.{Below, below}
 use Rattle.distances.proofs.LeastLaws.{PathOf, first-of, path-cons, below-all, distances-right}
 use Rattle.distances.proofs.TableLaws.{rounds-bound}

@@ -4,18 +4,17 @@ use mathlib.Core.Logic.{_⊎_, inl, inr, ⊎-elim}
 use mathlib.Core.Bool.{Bool, true, false, _&&_}
 use mathlib.Core.List.{List, [], _∷_}
 use mathlib.Core.Option.{Option, none, some}
-use Prim.Native.Nat.{ℕ, zero, suc, _+_, _≤_, _<_}
+use Prim.Native.Nat.{ℕ, zero, suc, _≤_, _<_}
 use native.Mathlib.Nat.{not-suc-le-zero}
 use native.Mathlib.Omega.{arith}
-use lib.ListN.{length, getD}
+use lib.ListN.{length}
 use lib.Dec.{ltb}
 use borrow.Author.Tests.{ltb-true, lt-ltb}
-use Rattle.task.specs.declared.Step.{Step}
 use Rattle.task.specs.declared.Block.{Block}
 use Rattle.task.specs.Task.{Task, step, block, stepCount, costOf}
 use Rattle.task.proofs.LoopLaws.{and-left, and-right, and-both, tab-at}
 use Rattle.blocks.specs.Blocks.{Blocks, blockAt, goalBlock}
-use Rattle.distances.specs.Distances.{Distance, Hop, Table, AtMost, IsDistance, DistanceIs, leadsTo, isPath, far, farOf, plus, zeroFar, least, via, onward, better, round, rounds, distances}
+use Rattle.distances.specs.Distances.{Distance, Hop, Table, AtMost, DistanceIs, leadsTo, isPath, far, farOf, plus, zeroFar, least, onward, better, round, rounds, distances}
 use Rattle.distances.proofs.OrderLaws.{Below, below, weaken, of-below, not-below, at-most-refl, at-most-trans, zero-at-most, plus-mono, plus-more, least-below, least-found, via-below, via-some}
 use Rattle.distances.proofs.PigeonLaws.{In, here, there, Different, in-or-not, pigeon}
 

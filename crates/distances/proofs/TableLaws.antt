@@ -1,9 +1,9 @@
 -- Tables that are the distances: for code that works them out in another order than the rounds. A block has one distance, and a table that
 -- one more round leaves as it is holds the distances.
 use mathlib.Core.Path.{_≡_, refl, sym, ap, _∙_, subst}
-use mathlib.Core.Logic.{_⊎_, inl, inr, ⊎-elim}
-use mathlib.Core.Bool.{Bool, true, false}
-use mathlib.Core.List.{List, [], _∷_}
+use mathlib.Core.Logic.{_⊎_, ⊎-elim}
+use mathlib.Core.Bool.{true}
+use mathlib.Core.List.{List}
 use mathlib.Core.Option.{Option, none, some}
 use Prim.Native.Nat.{ℕ, zero, suc, _+_, _*_, _≤_, _<_}
 use native.Mathlib.Omega.{arith}
@@ -12,7 +12,7 @@ use Rattle.task.specs.declared.Step.{Step}
 use Rattle.task.specs.declared.Block.{Block}
 use Rattle.task.specs.Task.{Task, Tenths, costOf}
 use Rattle.blocks.specs.Blocks.{Blocks, blockAt, goalBlock}
-use Rattle.distances.specs.Distances.{Distance, Hop, Table, AtMost, IsDistance, DistanceIs, isPath, far, farOf, plus, zeroFar, better, rounds, distances}
+use Rattle.distances.specs.Distances.{Distance, Hop, Table, AtMost, DistanceIs, isPath, far, farOf, plus, zeroFar, better, rounds, distances}
 use Rattle.distances.proofs.OrderLaws.{Below, of-below, not-below, at-most-antisym}
 use Rattle.distances.proofs.LeastLaws.{PathOf, Arc, step-below, round-found, arc-met, goal-met, round-at, distances-right}
 

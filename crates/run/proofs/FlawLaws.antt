@@ -1,25 +1,24 @@
 -- A walk along a path ends in a plan or at a flaw, and the cut of each flaw is legal: it parts the flawed state from a state of the same block
 -- that is wanted.
-use mathlib.Core.Path.{_≡_, refl, sym, ap, _∙_, subst}
+use mathlib.Core.Path.{_≡_, sym, ap, _∙_, subst}
 use mathlib.Core.Logic.{⊎-elim}
-use mathlib.Core.Bool.{Bool, true, false, _&&_, not}
+use mathlib.Core.Bool.{Bool, true, false, not}
 use mathlib.Core.List.{List, [], _∷_, map}
-use mathlib.Core.Option.{Option, none, some, Option·getD}
-use Prim.Native.Nat.{ℕ, zero, suc, _+_, _≤_, _<_}
-use native.Mathlib.Omega.{arith}
+use mathlib.Core.Option.{Option, none, some}
+use Prim.Native.Nat.{ℕ, _<_}
 use lib.ListN.{length}
 use borrow.Author.Tests.{eqb-true, lt-ltb, not-true, not-false}
 use Rattle.task.specs.declared.Column.{Column}
 use Rattle.task.specs.declared.Position.{Position}
 use Rattle.task.specs.declared.Step.{Step}
 use Rattle.task.specs.declared.Block.{Block}
-use Rattle.task.specs.Loops.{first, when}
+use Rattle.task.specs.Loops.{when}
 use Rattle.task.specs.Task.{Task, State, Accepted, column, position, at, columnCount, stepCount, sizeOf, needAt, effectAt, goalAt, meets, changed, isState, perColumn, canTake, taken, isGoal, reaches}
 use Rattle.task.proofs.LoopLaws.{and-left, and-right, and-both, true-or-false, first-found, first-some, when-some, when-none}
 use Rattle.task.proofs.TaskLaws.{column-passes, column-fails, per-at, taken-at, taken-state}
-use Rattle.blocks.specs.Blocks.{PositionSet, Sets, Blocks, holds, only, every, common, without, isEmpty, setAt, blockAt, leadsAt, inBlock, goalBlock, leads}
+use Rattle.blocks.specs.Blocks.{PositionSet, Sets, Blocks, holds, common, without, setAt, blockAt, leadsAt, inBlock, goalBlock, leads}
 use Rattle.blocks.proofs.SetLaws.{holds-common, holds-without, holds-only, holds-every, held-some, common-held}
-use Rattle.blocks.proofs.LeadLaws.{Shaped, held-at, goal-exact, leads-exact}
+use Rattle.blocks.proofs.LeadLaws.{held-at, goal-exact, leads-exact}
 use Rattle.blocks.proofs.PartLaws.{Parts, CutFits, oldSet, oldBlock}
 use Rattle.distances.specs.Distances.{Hop, leadsTo, isPath}
 use Rattle.distances.proofs.LeastLaws.{first-of}

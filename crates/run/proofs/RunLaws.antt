@@ -1,7 +1,7 @@
 -- What a run answers is right, for any accepted model: a plan is one and none is cheaper, "no plan" is said only where none exists, an open run
 -- has filled its room and has no room for every state, and each cut is the one that the rules give for the blocks before it.
-use mathlib.Core.Path.{_≡_, refl, sym, ap, _∙_, subst, subst⁻¹}
-use mathlib.Core.Bool.{Bool, true, false}
+use mathlib.Core.Path.{_≡_, refl, ap, _∙_, subst, subst⁻¹}
+use mathlib.Core.Bool.{true}
 use mathlib.Core.List.{List, [], _∷_, _++_, map}
 use mathlib.Core.Option.{Option, none, some, Option·map, Option·getD}
 use Prim.Native.Nat.{ℕ, zero, suc, _+_, _-_, _≤_, _<_}
@@ -9,18 +9,18 @@ use native.Mathlib.Omega.{arith}
 use lib.ListN.{length, length-append}
 use Rattle.task.specs.declared.Step.{Step}
 use Rattle.task.specs.declared.Block.{Block}
-use Rattle.task.specs.Task.{Task, State, Tenths, Accepted, block, stateCount, costOf, start, isState, reaches, costs, IsPlan}
+use Rattle.task.specs.Task.{Task, Tenths, Accepted, block, stateCount, costOf, start, costs, IsPlan}
 use Rattle.task.proofs.TaskLaws.{start-state}
 use Rattle.blocks.specs.declared.Cut.{Cut}
-use Rattle.blocks.specs.Blocks.{Blocks, blockAt, inBlock, cutOk, cutsOk, accepted, blocksOf, blockOf}
+use Rattle.blocks.specs.Blocks.{Blocks, cutsOk, accepted, blocksOf, blockOf}
 use Rattle.blocks.proofs.PartLaws.{Parts, CutFits, fits-ok}
 use Rattle.blocks.proofs.CutLaws.{BlockIs, accepted-parts, accepted-more, blocks-length}
 use Rattle.blocks.proofs.CountLaws.{few}
-use Rattle.distances.specs.Distances.{Distance, Hop, NoMore, number, isPath, far, farOf, plus, zeroFar, distances, stateFar, estimate}
-use Rattle.distances.proofs.EstimateLaws.{StateFar, state-far, estimate-below}
-use Rattle.run.specs.Run.{Walk, arrived, flawed, walk, trace, cutFor, Look, hopeless, planned, flaw, look, lookFrom, lookWalk, Answer, plan, noPlan, «open», cutOf, endOf, Outcome, refine, run}
+use Rattle.distances.specs.Distances.{Distance, Hop, NoMore, number, far, farOf, plus, zeroFar, distances, estimate}
+use Rattle.distances.proofs.EstimateLaws.{state-far, estimate-below}
+use Rattle.run.specs.Run.{Walk, arrived, flawed, walk, trace, Look, hopeless, planned, flaw, look, lookFrom, lookWalk, Answer, plan, noPlan, «open», cutOf, endOf, Outcome, refine, run}
 use Rattle.run.proofs.TraceLaws.{trace-path}
-use Rattle.run.proofs.FlawLaws.{Flaw, WalkRight, walk-right, flaw-fits, stepsOf}
+use Rattle.run.proofs.FlawLaws.{WalkRight, walk-right, flaw-fits}
 
 steps-cost : (t : Task) (hs : List Hop) → costs t (map (λ h. h .step) hs) ≡ far t hs .cost
 unfolding costs far plus zeroFar

@@ -1,17 +1,15 @@
 -- Laws of the task: what holds of each column, and that a step leads from state to state.
-use mathlib.Core.Path.{_≡_, refl, sym, ap, _∙_}
+use mathlib.Core.Path.{_≡_, refl}
 use mathlib.Core.Bool.{Bool, true, false, _&&_}
-use mathlib.Core.List.{List, [], _∷_}
+use mathlib.Core.List.{List, _∷_}
 use mathlib.Core.Option.{Option, none, some}
-use Prim.Native.Nat.{ℕ, zero, suc, _+_, _≤_, _<_}
-use native.Mathlib.Omega.{arith}
+use Prim.Native.Nat.{ℕ, _<_}
 use lib.ListN.{length, getD}
 use lib.Dec.{eqb, ltb}
-use borrow.Author.Tests.{ltb-true, lt-ltb, eqb-true, eq-eqb}
+use borrow.Author.Tests.{ltb-true, lt-ltb, eq-eqb}
 use Rattle.task.specs.declared.Column.{Column}
 use Rattle.task.specs.declared.Position.{Position}
 use Rattle.task.specs.declared.Step.{Step}
-use Rattle.task.specs.Loops.{all, first, tab, when}
 use Rattle.task.specs.Task.{Task, State, Accepted, column, position, at, columnCount, stepCount, sizeOf, startAt, effectAt, eachColumn, perColumn, changed, isState, start, canTake, taken, reaches}
 use Rattle.task.proofs.LoopLaws.{and-left, and-right, and-both, all-at, all-intro, all-false, tab-at, tab-length}
 

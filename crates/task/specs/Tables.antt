@@ -1,10 +1,8 @@
 -- Which task a model's tables are. A step has a place for each of the 16 columns that a model can have.
 use mathlib.Core.Option.{Option, none, some}
-use Prim.Native.Nat.{ℕ, zero, suc, _+_, _*_, _≤_, _<_}
+use Prim.Native.Nat.{ℕ, zero, suc, _+_, _*_, _≤_}
 use lib.ListN.{getD}
-use Rattle.task.specs.declared.Column.{Column}
 use Rattle.task.specs.declared.Position.{Position}
-use Rattle.task.specs.declared.Step.{Step}
 use Rattle.task.specs.declared.Mark.{Mark}
 use Rattle.task.specs.declared.Model.{Model}
 use Rattle.task.specs.Loops.{tab}

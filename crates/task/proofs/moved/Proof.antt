@@ -4,19 +4,14 @@ use Rattle.task.proofs.TableLaws.{marked-none, marked-some}
 use borrow.Author.Needs.{needs}
 use Rattle.task.proofs.moved.Statement.{statement}
 use Rattle.task.proofs.moved.Tie as tie
-use Rattle.task.proofs.moved.Reads as reads
-use Rattle.task.proofs.moved.Lts as lts
 
--- src/lib.rt:153:9
 returns : tie.Need-returns
 unfolding changed
 returns c = rw (marked-none (c .before .args .mark) (search needs))
 
--- src/lib.rt:155:14
 sub-t5 : tie.Need-sub-t5
 sub-t5 c = search needs
 
--- src/lib.rt:148:1
 returns-2 : tie.Need-returns-2
 unfolding changed
 returns-2 c = rw (marked-some (c .before .args .mark) (c .before .args .mark .0 - 1) (search needs))

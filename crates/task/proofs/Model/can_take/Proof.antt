@@ -1,19 +1,13 @@
 use mathlib.Core.Path.{_≡_, sym, _∙_}
-use mathlib.Core.Bool.{true, false}
-use Prim.Native.Nat.{ℕ, _+_, _*_, _-_, _≤_, _<_}
-use native.Mathlib.Nat.{zero-add}
+use mathlib.Core.Bool.{true}
+use Prim.Native.Nat.{_*_, _-_, _≤_}
 use native.Mathlib.Omega.{arith}
 use borrow.Author.Tests.{not-true, not-false}
-use lib.ListN.{getD}
-use Rattle.task.specs.Task.{meets, at, column}
-use Rattle.task.specs.Tables.{mark, marked}
+use Rattle.task.specs.Task.{at}
 use Rattle.task.proofs.TableLaws.{rowMet, row-none, row-more, row-fails, can-take-row}
 use borrow.Author.Needs.{needs}
 use Rattle.task.proofs.Model.can_take.Statement.{statement}
 use Rattle.task.proofs.Model.can_take.Tie as tie
-use Rattle.task.proofs.Model.can_take.Reads as reads
-use Rattle.task.proofs.Model.can_take.Lts as lts
-use Rattle.task.proofs.met.Reads as met-reads
 
 abbrev Inv-loop : tie.InvT-loop
 Inv-loop self state columns place j₀ j = (j ≤ columns) × (rowMet (self .need) place state j ≡ true)
@@ -21,50 +15,39 @@ Inv-loop self state columns place j₀ j = (j ≤ columns) × (rowMet (self .nee
 abbrev μ-loop : tie.MeasureT-loop
 μ-loop self state columns place j₀ j = columns - j
 
--- src/lib.rt:76:21
 cast-place : tie.Need-cast-place Inv-loop μ-loop
 cast-place c = search needs
 
--- src/lib.rt:76:21
 mul-place : tie.Need-mul-place Inv-loop μ-loop
 mul-place c = search needs
 
--- src/lib.rt:78:9
 loop-holds : tie.Need-loop-holds Inv-loop μ-loop
 loop-holds c = (search needs, row-none _ _ _)
 
--- src/lib.rt:79:31
 add-met : tie.Need-add-met Inv-loop μ-loop
 add-met c = search needs
 
--- src/lib.rt:79:21
 element-copy-out-met : tie.Need-element-copy-out-met Inv-loop μ-loop
 element-copy-out-met c = search needs
 
--- src/lib.rt:79:43
 array-copy-out-met : tie.Need-array-copy-out-met Inv-loop μ-loop
 array-copy-out-met c = search needs
 
--- src/lib.rt:79:17
 met-requires : tie.Need-met-requires Inv-loop μ-loop
 met-requires c κs = search needs
 
--- src/lib.rt:80:17
 returns : tie.Need-returns Inv-loop μ-loop
 unfolding at
 returns c = let g = c .before .before .before .before .before .before .before .args in
     sym (can-take-row (g .t1) (g .step) (g .t3) (c .before .before .before .before .before .before .before .pre .1)
     ∙ row-fails (g .t1 .need) (g .step .0 * 16) (g .t3) (g .t1 .columns) (c .before .before .before .before .before .loop .j) (c .before .before .before .before .loop-test .taken) (sym (c .before .met .ensures) ∙ not-true _ (c .if1 .taken)))
 
--- src/lib.rt:82:13
 add-j : tie.Need-add-j Inv-loop μ-loop
 add-j c = search needs
 
--- src/lib.rt:78:9
 loop-less : tie.Need-loop-less Inv-loop μ-loop
 loop-less c = search needs
 
--- src/lib.rt:78:9
 loop-again : tie.Need-loop-again Inv-loop μ-loop
 unfolding at
 loop-again c = let g = c .before .before .before .before .before .before .before .args in (
@@ -72,7 +55,6 @@ loop-again c = let g = c .before .before .before .before .before .before .before
   row-more (g .t1 .need) (g .step .0 * 16) (g .t3) (c .before .before .before .before .before .loop .j) (c .before .before .before .before .before .loop .inv .1) (sym (c .before .met .ensures) ∙ not-false _ (c .if1 .left)),
 )
 
--- src/lib.rt:71:5
 returns-2 : tie.Need-returns-2 Inv-loop μ-loop
 returns-2 c = let g = c .before .before .before .args in
     let e : c .before .loop .j ≡ g .t1 .columns = omega arith in

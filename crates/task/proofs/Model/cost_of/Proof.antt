@@ -4,14 +4,11 @@ use Rattle.task.specs.Tables.{taskOf}
 use Rattle.task.specs.Task.{costs}
 use lib.ListN.{length, take}
 use native.Mathlib.Omega.{arith}
-use Prim.Native.Nat.{ℕ, _+_, _*_, _-_, _≤_, _<_}
-use mathlib.Core.Path.{_≡_, sym, _∙_}
+use Prim.Native.Nat.{_*_, _-_, _≤_}
+use mathlib.Core.Path.{_≡_}
 use borrow.Author.Needs.{needs}
 use Rattle.task.proofs.Model.cost_of.Statement.{statement}
 use Rattle.task.proofs.Model.cost_of.Tie as tie
-use Rattle.task.proofs.Model.cost_of.Reads as reads
-use Rattle.task.proofs.Model.cost_of.Lts as lts
-use Rattle.task.proofs.tenths.Reads as tenths-reads
 
 abbrev Inv-loop : tie.InvT-loop
 Inv-loop count self list sum₀ i₀ sum i = ((i ≤ count) × (sum ≤ 65535 * i)) × (sum ≡ costs (taskOf self) (take i list))
@@ -19,44 +16,34 @@ Inv-loop count self list sum₀ i₀ sum i = ((i ≤ count) × (sum ≤ 65535 * 
 abbrev μ-loop : tie.MeasureT-loop
 μ-loop count self list sum₀ i₀ sum i = count - i
 
--- src/lib.rt:126:9
 loop-holds : tie.Need-loop-holds Inv-loop μ-loop
 unfolding costs
 loop-holds c = search needs
 
--- src/lib.rt:127:21
 array-copy-out-s : tie.Need-array-copy-out-s Inv-loop μ-loop
 array-copy-out-s c = search needs
 
--- src/lib.rt:128:22
 cast-at : tie.Need-cast-at Inv-loop μ-loop
 cast-at c = search needs
 
--- src/lib.rt:129:27
 mul-tenths : tie.Need-mul-tenths Inv-loop μ-loop
 mul-tenths c = search needs
 
--- src/lib.rt:129:27
 element-copy-out-tenths : tie.Need-element-copy-out-tenths Inv-loop μ-loop
 element-copy-out-tenths c = omega (arith, c .before .before .before .before .pre .1 .1 (c .before .before .before .loop .i) (c .before .before .loop-test .taken), c .before .before .before .before .pre .0 .steps)
 
--- src/lib.rt:129:20
 tenths-requires : tie.Need-tenths-requires Inv-loop μ-loop
 tenths-requires c κs = search needs
 
--- src/lib.rt:129:13
 add-sum : tie.Need-add-sum Inv-loop μ-loop
 add-sum c = omega arith
 
--- src/lib.rt:130:13
 add-i : tie.Need-add-i Inv-loop μ-loop
 add-i c = search needs
 
--- src/lib.rt:126:9
 loop-less : tie.Need-loop-less Inv-loop μ-loop
 loop-less c = search needs
 
--- src/lib.rt:126:9
 loop-again : tie.Need-loop-again Inv-loop μ-loop
 loop-again c = let g = c .before .before .before .before .before .before .args in
     let i = c .before .before .before .before .before .loop .i in
@@ -64,7 +51,6 @@ loop-again c = let g = c .before .before .before .before .before .before .args i
     let k = cost-of (g .t1) _ (c .before .before .before .before .before .before .pre .1 .1 i (c .before .before .before .before .loop-test .taken)) in
     (search needs, omega (arith, costs-more (taskOf (g .t1)) (g .t2) i (omega arith), k))
 
--- src/lib.rt:120:5
 returns : tie.Need-returns Inv-loop μ-loop
 returns c = let g = c .before .before .args in
     let e : c .before .loop .i ≡ g .count = omega arith in

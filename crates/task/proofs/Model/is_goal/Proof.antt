@@ -1,19 +1,14 @@
 use mathlib.Core.Path.{_≡_, sym, _∙_}
-use mathlib.Core.Bool.{true, false}
-use Prim.Native.Nat.{ℕ, _+_, _*_, _-_, _≤_, _<_}
+use mathlib.Core.Bool.{true}
+use Prim.Native.Nat.{_-_, _≤_}
 use native.Mathlib.Nat.{zero-add}
 use native.Mathlib.Omega.{arith}
 use borrow.Author.Tests.{not-true, not-false}
-use lib.ListN.{getD}
-use Rattle.task.specs.Task.{meets, at, column}
-use Rattle.task.specs.Tables.{mark, marked}
+use Rattle.task.specs.Task.{at}
 use Rattle.task.proofs.TableLaws.{rowMet, row-none, row-more, row-fails, is-goal-row}
 use borrow.Author.Needs.{needs}
 use Rattle.task.proofs.Model.is_goal.Statement.{statement}
 use Rattle.task.proofs.Model.is_goal.Tie as tie
-use Rattle.task.proofs.Model.is_goal.Reads as reads
-use Rattle.task.proofs.Model.is_goal.Lts as lts
-use Rattle.task.proofs.met.Reads as met-reads
 
 abbrev Inv-loop : tie.InvT-loop
 Inv-loop self state columns j₀ j = (j ≤ columns) × (rowMet (self .goal) 0 state j ≡ true)
@@ -21,38 +16,30 @@ Inv-loop self state columns j₀ j = (j ≤ columns) × (rowMet (self .goal) 0 s
 abbrev μ-loop : tie.MeasureT-loop
 μ-loop self state columns j₀ j = columns - j
 
--- src/lib.rt:110:9
 loop-holds : tie.Need-loop-holds Inv-loop μ-loop
 loop-holds c = (search needs, row-none _ _ _)
 
--- src/lib.rt:111:21
 element-copy-out-met : tie.Need-element-copy-out-met Inv-loop μ-loop
 element-copy-out-met c = search needs
 
--- src/lib.rt:111:35
 array-copy-out-met : tie.Need-array-copy-out-met Inv-loop μ-loop
 array-copy-out-met c = search needs
 
--- src/lib.rt:111:17
 met-requires : tie.Need-met-requires Inv-loop μ-loop
 met-requires c κs = search needs
 
--- src/lib.rt:112:17
 returns : tie.Need-returns Inv-loop μ-loop
 unfolding at
 returns c = let g = c .before .before .before .before .before .before .args in
     sym (is-goal-row (g .t1) (g .t2)
     ∙ row-fails (g .t1 .goal) 0 (g .t2) (g .t1 .columns) (c .before .before .before .before .before .loop .j) (c .before .before .before .before .loop-test .taken) (rw zero-add (sym (c .before .met .ensures) ∙ not-true _ (c .if1 .taken))))
 
--- src/lib.rt:114:13
 add-j : tie.Need-add-j Inv-loop μ-loop
 add-j c = search needs
 
--- src/lib.rt:110:9
 loop-less : tie.Need-loop-less Inv-loop μ-loop
 loop-less c = search needs
 
--- src/lib.rt:110:9
 loop-again : tie.Need-loop-again Inv-loop μ-loop
 unfolding at
 loop-again c = let g = c .before .before .before .before .before .before .args in (
@@ -60,7 +47,6 @@ loop-again c = let g = c .before .before .before .before .before .before .args i
   row-more (g .t1 .goal) 0 (g .t2) (c .before .before .before .before .before .loop .j) (c .before .before .before .before .before .loop .inv .1) (rw zero-add (sym (c .before .met .ensures) ∙ not-false _ (c .if1 .left))),
 )
 
--- src/lib.rt:104:5
 returns-2 : tie.Need-returns-2 Inv-loop μ-loop
 returns-2 c = let g = c .before .before .args in
     let e : c .before .loop .j ≡ g .t1 .columns = omega arith in

@@ -1,5 +1,5 @@
-use mathlib.Core.Path.{_≡_, sym, _∙_}
-use Prim.Native.Nat.{ℕ, _+_, _*_, _-_, _≤_, _<_}
+use mathlib.Core.Path.{_≡_, sym}
+use Prim.Native.Nat.{_*_, _-_, _≤_}
 use native.Mathlib.Omega.{arith}
 use lib.ListN.{length}
 use Rattle.task.specs.Task.{at}
@@ -9,9 +9,6 @@ use Rattle.task.proofs.TableLaws.{rowMoved, taken-row}
 use borrow.Author.Needs.{needs}
 use Rattle.task.proofs.Model.take.Statement.{statement}
 use Rattle.task.proofs.Model.take.Tie as tie
-use Rattle.task.proofs.Model.take.Reads as reads
-use Rattle.task.proofs.Model.take.Lts as lts
-use Rattle.task.proofs.moved.Reads as moved-reads
 
 abbrev Inv-loop : tie.InvT-loop
 Inv-loop self state columns place after₀ j₀ after j = (j ≤ columns) × (after ≡ over (tab j (rowMoved (self .effect) place state)) state)
@@ -19,47 +16,36 @@ Inv-loop self state columns place after₀ j₀ after j = (j ≤ columns) × (af
 abbrev μ-loop : tie.MeasureT-loop
 μ-loop self state columns place after₀ j₀ after j = columns - j
 
--- src/lib.rt:93:21
 cast-place : tie.Need-cast-place Inv-loop μ-loop
 cast-place c = search needs
 
--- src/lib.rt:93:21
 mul-place : tie.Need-mul-place Inv-loop μ-loop
 mul-place c = search needs
 
--- src/lib.rt:96:9
 loop-holds : tie.Need-loop-holds Inv-loop μ-loop
 loop-holds c = (search needs, sym (over-none _ _))
 
--- src/lib.rt:97:42
 add-moved : tie.Need-add-moved Inv-loop μ-loop
 add-moved c = search needs
 
--- src/lib.rt:97:30
 element-copy-out-moved : tie.Need-element-copy-out-moved Inv-loop μ-loop
 element-copy-out-moved c = search needs
 
--- src/lib.rt:97:54
 array-copy-out-moved : tie.Need-array-copy-out-moved Inv-loop μ-loop
 array-copy-out-moved c = search needs
 
--- src/lib.rt:97:24
 moved-requires : tie.Need-moved-requires Inv-loop μ-loop
 moved-requires c κs = search needs
 
--- src/lib.rt:97:13
 array-set-from-after : tie.Need-array-set-from-after Inv-loop μ-loop
 array-set-from-after c = search needs
 
--- src/lib.rt:98:13
 add-j : tie.Need-add-j Inv-loop μ-loop
 add-j c = search needs
 
--- src/lib.rt:96:9
 loop-less : tie.Need-loop-less Inv-loop μ-loop
 loop-less c = search needs
 
--- src/lib.rt:96:9
 loop-again : tie.Need-loop-again Inv-loop μ-loop
 unfolding rowMoved at
 loop-again c = let g = c .before .before .before .before .before .before .args in
@@ -67,7 +53,6 @@ loop-again c = let g = c .before .before .before .before .before .before .args i
     let e = over-more (c .before .before .before .before .loop .j) (rowMoved (g .t1 .effect) (g .step .0 * 16) (g .t3)) (g .t3) (omega (arith, c .before .before .before .before .before .before .pre .0 .columns)) in
     (search needs, rw (c .before .before .before .before .loop .inv .1, c .moved .ensures) (sym e))
 
--- src/lib.rt:88:5
 returns : tie.Need-returns Inv-loop μ-loop
 returns c = let g = c .before .before .before .args in
     let e : c .before .loop .j ≡ g .t1 .columns = omega arith in
