@@ -1,0 +1,5 @@
+pub mod FieldLaws
+pub mod PutLaws
+pub mod PartLaws
+pub mod JudgingLaws
+pub mod PackingLaws

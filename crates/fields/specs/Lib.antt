@@ -1,0 +1,3 @@
+pub mod Bits
+pub mod Judging
+pub mod Packing
