@@ -3,7 +3,7 @@ use Prim.Native.Nat.{ℕ, zero, suc, _+_, _*_, _≤_, _<_}
 use native.Mathlib.Numerals.{add-one}
 use native.Mathlib.Omega.{arith}
 use native.Mathlib.Decide.{decLt}
-use mathlib.Core.Path.{_≡_, refl, sym, ap, _∙_}
+use mathlib.Core.Path.{_≡_, refl, sym, ap, ap₂, _∙_}
 use mathlib.Core.Bool.{Bool, true, false, not, _||_}
 use mathlib.Core.List.{List, [], _∷_, _++_}
 use borrow.Author.Tests.{ltb-false, le-leb, lt-leb, lt-ltb, le-ltb}
@@ -204,3 +204,9 @@ inside-means low high v h = let r = or-false (ltb v low) (ltb high v) h in (ltb-
         number true = 1
         number false = 0
     or-false false b e = (refl, e)
+
+-- lists that agree at each turn are the same
+pub each-ext : {A : Type 0} (n : ℕ) (f g : ℕ → List A) → ((i : ℕ) → i < n → f i ≡ g i) → each n f ≡ each n g
+unfolding each
+each-ext zero f g h = refl
+each-ext (suc n) f g h = ap₂ (λ (x y : List _). x ++ y) (each-ext n f g (λ i l. h i (omega arith))) (h n (omega arith))

@@ -3,3 +3,4 @@ pub mod PutLaws
 pub mod PartLaws
 pub mod JudgingLaws
 pub mod PackingLaws
+pub mod PlaceLaws

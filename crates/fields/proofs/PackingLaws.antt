@@ -11,6 +11,7 @@ use Rattle.fields.specs.Bits.{bitAt, fieldAt, putField}
 use Rattle.fields.specs.Judging.{Entry, each}
 use Rattle.fields.specs.Packing.{bitsIn, packed, zeros, bytesFor, sheetOf}
 use Rattle.fields.proofs.JudgingLaws.{each-more}
+use Rattle.fields.proofs.FieldLaws.{field-lt}
 use Rattle.fields.proofs.PutLaws.{Bytes, length-field, field-before, field-cong, field-same, field-bits, bytes-field, append-field, same-bits}
 
 -- the bytes s have the values of the fields from bit position at on
@@ -132,6 +133,11 @@ packed-rest r at [] l h = refl
 packed-rest r at (e ∷ es) l h =
     ap (packed (at + e .width) es) (append-field r at (e .width) (e .field .value) l (omega arith))
     ∙ packed-rest r (at + e .width) es _ (omega (arith, length-field at (e .width) (e .field .value) l))
+
+-- values that were read have room in their fields
+pub holds-fit : (s : List ℕ) (at : ℕ) (es : List Entry) → Holds s at es → Fit es
+holds-fit s at [] p = tt
+holds-fit s at (e ∷ es) p = (subst (λ (x : ℕ). x < 2 ^ e .width) (p .0) (field-lt s at (e .width)), holds-fit s (at + e .width) es (p .1))
 
 -- ---- bytes that hold the same fields have the same bits, and are the same
 holds-agree : (s t : List ℕ) (at : ℕ) (es : List Entry) → Holds s at es → Holds t at es → (k : ℕ) → at ≤ k → k < at + bitsIn es → bitAt s k ≡ bitAt t k

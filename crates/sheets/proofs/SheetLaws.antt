@@ -3,6 +3,7 @@ use Prim.Native.Nat.{ℕ, _+_, _*_, _≤_, _<_}
 use native.Mathlib.Nat.{mul-le-mul}
 use native.Mathlib.Omega.{arith}
 use mathlib.Core.Path.{_≡_, ap, ap₂, _∙_}
+use mathlib.Core.Bool.{true}
 use mathlib.Core.List.{List, [], _∷_, _++_}
 use lib.ListN.{length}
 use lib.Dec.{leb}
@@ -23,6 +24,7 @@ pub record HeaderFine (f c m : Field) : Type 0 where
   pub some : 1 ≤ c .value
   pub columns : c .value ≤ 16
   pub steps : m .value ≤ 128
+  pub complete : (f .here ≡ true) × (c .here ≡ true) × (m .here ≡ true)
 
 pub header-fine : (f c m : Field) → judged (headerPart f c m) ≡ 0 → HeaderFine f c m
 unfolding headerPart
@@ -33,7 +35,7 @@ header-fine f c m h =
     let x = inside-means 1 1 (f .value) (a .0 .1) in
     let y = inside-means 1 16 (c .value) (b .0 .1) in
     let z = inside-means 0 128 (m .value) (d .0 .1) in
-    record { form = omega arith; some = omega arith; columns = omega arith; steps = omega arith }
+    record { form = omega arith; some = omega arith; columns = omega arith; steps = omega arith; complete = (a .0 .0, b .0 .0, d .0 .0) }
 
 -- ---- the parts of a sheet, judged one after the other, wherever the fields come from
 module _ (f c m : Field) where
@@ -114,16 +116,16 @@ free-at s w q e = e ∙ ap (λ (x : ℕ). judged (free w (onSheet s x w) ∷ [])
 
 -- ---- a whole sheet, part after part
 module _ (p : Source) (n m : ℕ) where
-  abbrev H : List Entry
+  abbrev pub H : List Entry
   H = headerPart (p .form) (p .columns) (p .steps)
 
-  abbrev C : List Entry
+  abbrev pub C : List Entry
   C = each n (columnPart (p .column))
 
-  abbrev S : List Entry
+  abbrev pub S : List Entry
   S = each m (stepPart (p .column) (p .cost) (p .marks) n)
 
-  abbrev F : List Entry
+  abbrev pub F : List Entry
   F = fillPart (modelBits n m) (p .fill)
 
   module _ {r : ℕ} (e : r ≡ judged H) where
