@@ -1,0 +1,6 @@
+pub mod FieldLaws
+pub mod PutLaws
+pub mod PartLaws
+pub mod JudgingLaws
+pub mod PackingLaws
+pub mod PlaceLaws

@@ -1,0 +1,24 @@
+use mathlib.Core.Path.{_∙_}
+use lib.Pow.{shl-exact}
+use native.Mathlib.Nat.{one-mul}
+use native.Mathlib.Omega.{arith}
+use borrow.Author.Needs.{needs}
+use Rattle.fields.proofs.bits.weight.Statement.{statement}
+use Rattle.fields.proofs.bits.weight.Tie as tie
+use Rattle.fields.proofs.bits.weight.Reads as reads
+use Rattle.fields.proofs.bits.weight.Lts as lts
+
+-- src/put.rt:11:13
+cast-result : tie.Need-cast-result
+cast-result c = search needs
+
+-- src/put.rt:11:5
+shl-result : tie.Need-shl-result
+shl-result c = search needs
+
+-- src/put.rt:7:1
+returns : tie.Need-returns
+returns c = shl-exact 1 (c .args .e) 32 (omega arith) (omega arith) ∙ one-mul _
+
+pub weight-spec : {M : Type 1} → statement M
+weight-spec = tie.close (tie.spec cast-result shl-result returns)

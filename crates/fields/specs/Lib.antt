@@ -1,0 +1,4 @@
+pub mod Bits
+pub mod Judging
+pub mod Packing
+pub mod Places

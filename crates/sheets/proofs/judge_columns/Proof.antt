@@ -1,0 +1,72 @@
+use native.Mathlib.Omega.{arith}
+use Prim.Native.Nat.{_≤_, _-_}
+use mathlib.Core.Path.{_≡_}
+use Rattle.sheets.specs.ModelSheet.{columnPart, columnOn}
+use Rattle.fields.specs.Judging.{judged, each}
+use Rattle.fields.proofs.JudgingLaws.{none, pass, hit, end}
+use borrow.Author.Needs.{needs}
+use Rattle.sheets.proofs.judge_columns.Statement.{statement}
+use Rattle.sheets.proofs.judge_columns.Tie as tie
+use Rattle.sheets.proofs.judge_columns.Reads as reads
+use Rattle.sheets.proofs.judge_columns.Lts as lts
+use Rattle.sheets.proofs.judge_column.Reads as judge-column-reads
+
+abbrev Inv-loop : tie.InvT-loop
+Inv-loop s n i₀ i =
+    (i ≤ n) × (judged (each i (columnPart (columnOn s))) ≡ 0)
+
+abbrev μ-loop : tie.MeasureT-loop
+μ-loop s n i₀ i =
+    n - i
+
+-- src/lib.rt:56:5
+loop-holds : tie.Need-loop-holds Inv-loop μ-loop
+loop-holds c =
+    (omega arith, none _)
+
+-- src/lib.rt:57:13
+judge-column-requires : tie.Need-judge-column-requires Inv-loop μ-loop
+judge-column-requires c κs = search needs
+
+-- src/lib.rt:59:13
+returns : tie.Need-returns Inv-loop μ-loop
+returns c =
+    let a = c .before .before .before .before .before .args in
+    let l = c .before .before .before .loop in
+    hit (l .i) (a .n) (columnPart (columnOn (a .s .now))) (omega arith) (l .inv .1) (c .before .judge-column .ensures) (c .if1 .taken)
+
+-- src/lib.rt:61:9
+add-i : tie.Need-add-i Inv-loop μ-loop
+add-i c = search needs
+
+-- src/lib.rt:56:5
+loop-less : tie.Need-loop-less Inv-loop μ-loop
+loop-less c = search needs
+
+-- src/lib.rt:56:5
+loop-again : tie.Need-loop-again Inv-loop μ-loop
+loop-again c =
+    let a = c .before .before .before .before .before .args in
+    let l = c .before .before .before .loop in
+    (omega arith, pass (l .i) (columnPart (columnOn (a .s .now))) (l .inv .1) (c .before .judge-column .ensures) (c .if1 .left))
+
+-- src/lib.rt:51:1
+returns-2 : tie.Need-returns-2 Inv-loop μ-loop
+returns-2 c =
+    let a = c .before .before .before .args in
+    let l = c .before .loop in
+    end (l .i) (a .n) (columnPart (columnOn (a .s .now))) (omega arith) (omega arith) (l .inv .1)
+
+pub judge-columns-spec : {M : Type 1} → statement M
+judge-columns-spec =
+    tie.close
+    (tie.spec
+    Inv-loop
+    μ-loop
+    loop-holds
+    judge-column-requires
+    returns
+    add-i
+    loop-less
+    loop-again
+    returns-2)

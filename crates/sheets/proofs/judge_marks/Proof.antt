@@ -1,0 +1,88 @@
+use Prim.Native.Nat.{ℕ, _+_, _*_}
+use mathlib.Core.Path.{ap}
+use Rattle.sheets.specs.ModelSheet.{columnOn, marksOn}
+use Rattle.sheets.proofs.SheetLaws.{need-bad, effect-last, field-at}
+use borrow.Author.Needs.{needs}
+use Rattle.sheets.proofs.judge_marks.Statement.{statement}
+use Rattle.sheets.proofs.judge_marks.Tie as tie
+use Rattle.sheets.proofs.judge_marks.Reads as reads
+use Rattle.sheets.proofs.judge_marks.Lts as lts
+use Rattle.fields.proofs.field.field.Reads as field-reads
+use Rattle.fields.proofs.field.judge_field.Reads as judge-field-reads
+use Rattle.sheets.proofs.model_bits.Reads as model-bits-reads
+
+-- src/lib.rt:70:30
+mul-field : tie.Need-mul-field
+mul-field c = search needs
+
+-- src/lib.rt:70:25
+add-field : tie.Need-add-field
+add-field c = search needs
+
+-- src/lib.rt:70:9
+field-requires : tie.Need-field-requires
+field-requires c κs = search needs
+
+-- src/lib.rt:71:14
+model-bits-requires : tie.Need-model-bits-requires
+model-bits-requires c κs = search needs
+
+-- src/lib.rt:71:14
+add-at : tie.Need-add-at
+add-at c = search needs
+
+-- src/lib.rt:71:38
+mul-at : tie.Need-mul-at
+mul-at c = search needs
+
+-- src/lib.rt:71:14
+add-at-2 : tie.Need-add-at-2
+add-at-2 c = search needs
+
+-- src/lib.rt:72:9
+judge-field-requires : tie.Need-judge-field-requires
+judge-field-requires c κs = search needs
+
+-- src/lib.rt:74:9
+returns : tie.Need-returns
+unfolding columnOn marksOn
+returns c =
+    let a = c .before .before .before .before .before .args in
+    let size = c .before .before .before .field .result in
+    let at : ℕ → ℕ = λ x. x + 16 + a .i * 12 in
+    need-bad (columnOn (a .s .now)) (a .i) (marksOn (a .s .now) (a .n)) (a .j) (c .before .before .before .field .ensures) (field-at (a .s .now) 6 0 size 5 (ap at (c .before .before .model-bits .ensures .0)) (c .before .judge-field .ensures)) (c .if1 .taken)
+
+-- src/lib.rt:76:20
+add-judge-field : tie.Need-add-judge-field
+add-judge-field c = search needs
+
+-- src/lib.rt:76:5
+judge-field-requires-2 : tie.Need-judge-field-requires-2
+judge-field-requires-2 c κs = search needs
+
+-- src/lib.rt:66:1
+returns-2 : tie.Need-returns-2
+unfolding columnOn marksOn
+returns-2 c =
+    let a = c .before .before .before .before .before .before .args in
+    let size = c .before .before .before .before .field .result in
+    let at : ℕ → ℕ = λ x. x + 16 + a .i * 12 in
+    let q = c .before .before .before .model-bits .ensures .0 in
+    effect-last (columnOn (a .s .now)) (a .i) (marksOn (a .s .now) (a .n)) (a .j) (c .before .before .before .before .field .ensures) (field-at (a .s .now) 6 0 size 5 (ap at q) (c .before .before .judge-field .ensures)) (c .before .if1 .left) (field-at (a .s .now) 6 0 size 5 (ap (λ (x : ℕ). at x + 6) q) (c .judge-field2 .ensures))
+
+pub judge-marks-spec : {M : Type 1} → statement M
+judge-marks-spec =
+    tie.close
+    (tie.spec
+    mul-field
+    add-field
+    field-requires
+    model-bits-requires
+    add-at
+    mul-at
+    add-at-2
+    judge-field-requires
+    returns
+    add-judge-field
+    judge-field-requires-2
+    returns-2)
