@@ -56,7 +56,7 @@ step-fine : (c : ℕ → ColumnFields) (cost : ℕ → Field) (k : ℕ → ℕ �
 unfolding stepPart
 step-fine c cost k n j h = let a = first-fine (free 16 (cost j)) _ (omega arith) h in (a .0 .0, a .1)
 
-fill-fine : (b : ℕ) (f : Field) → judged (fillPart b f) ≡ 0 → (f .here ≡ true) × (f .value ≡ 0)
+pub fill-fine : (b : ℕ) (f : Field) → judged (fillPart b f) ≡ 0 → (f .here ≡ true) × (f .value ≡ 0)
 unfolding fillPart
 fill-fine b f h =
     let a = fine (fillBits b) f 6 (outside 0 0 (f .value)) (omega arith) h in

@@ -1,0 +1,2 @@
+pub mod CutPartLaws
+pub mod CutRoundLaws

@@ -1,0 +1,90 @@
+-- 01, "Sheets" and "Refusal numbers", of the cut part: its fields in sheet order, how each is judged, and where each stands.
+use Prim.Native.Nat.{ℕ, _+_, _-_, _*_}
+use mathlib.Core.Bool.{not}
+use mathlib.Core.List.{List, [], _∷_, _++_}
+use lib.ListN.{length}
+use lib.Dec.{ltb}
+use Rattle.task.specs.Sizes.{limits}
+use Rattle.task.specs.Loops.{tab}
+use Rattle.task.specs.Task.{Task, column, block}
+use Rattle.fields.specs.Bits.{fieldAt}
+use Rattle.fields.specs.Judging.{Field, Entry, Check, onSheet, entry, free, outside, check, checksOf, refusal, judged, each}
+use Rattle.fields.specs.Packing.{bytesFor}
+use Rattle.blocks.specs.declared.Cut.{Cut}
+use Rattle.blocks.specs.Blocks.{cutOk, blocksOf}
+use Rattle.sheets.specs.ModelSheet.{fillBits, fillPart}
+
+-- the fields of a cut
+pub record CutFields : Type 0 where
+  pub block : Field
+  pub column : Field
+  pub wanted : Field
+
+-- where the fields of a cut part come from: a sheet's bits, or what a writer is given and lent
+pub record CutSource : Type 0 where
+  pub form : Field
+  pub count : Field
+  pub cut : ℕ → CutFields
+  pub fill : Field
+
+-- the cut that three fields name, and the first i cuts
+unfoldable pub cutIn : CutFields → Cut
+cutIn f = record { block = block (f .block .value); column = column (f .column .value); wanted = f .wanted .value }
+
+unfoldable pub cutsIn : (ℕ → CutFields) → ℕ → List Cut
+cutsIn c i = tab i (λ k. cutIn (c k))
+
+-- ---- the fields in sheet order, each with its bits and what is refused of its value
+
+-- form 4 bits, value 2; cuts 8, at most 255, which only a writer can be given more of
+unfoldable pub cutHeader : Field → Field → List Entry
+cutHeader form count = entry 4 form 2 (outside 2 2 (form .value)) ∷ entry 8 count 9 (outside 0 (limits .blocks - 1) (count .value)) ∷ []
+
+-- cut i: block 8 bits, column 4, wanted set 32; judged when its three fields are there, by the blocks that the cuts before it made
+unfoldable pub cutPart : Task → (ℕ → CutFields) → ℕ → List Entry
+cutPart t c i =
+    free 8 (c i .block)
+    ∷ free 4 (c i .column)
+    ∷ entry 32 (c i .wanted) 9 (not (cutOk t (blocksOf t (cutsIn c i)) (cutIn (c i))))
+    ∷ []
+
+-- how many bits n cuts take: cut n would begin there
+unfoldable pub cutBits : ℕ → ℕ
+cutBits n = 12 + n * 44
+
+unfoldable pub cutFields : Task → CutSource → ℕ → List Entry
+cutFields t p n = cutHeader (p .form) (p .count) ++ (each n (cutPart t (p .cut)) ++ fillPart (cutBits n) (p .fill))
+
+-- the whole cut part
+unfoldable pub cutEntries : Task → CutSource → List Entry
+cutEntries t p = cutFields t p (p .count .value)
+
+-- ---- where the fields stand in a cut part
+abbrev pub countOf : List ℕ → ℕ
+countOf s = fieldAt s 4 8
+
+unfoldable pub cutOn : List ℕ → ℕ → CutFields
+cutOn s i = record { block = onSheet s (12 + i * 44) 8; column = onSheet s (12 + i * 44 + 8) 4; wanted = onSheet s (12 + i * 44 + 8 + 4) 32 }
+
+-- the fields of the bytes s, read as a part of n cuts
+unfoldable pub cutPartWith : List ℕ → ℕ → CutSource
+cutPartWith s n = record { form = onSheet s 0 4; count = onSheet s 4 8; cut = cutOn s; fill = onSheet s (cutBits n) (fillBits (cutBits n)) }
+
+unfoldable pub ofCutPart : List ℕ → CutSource
+ofCutPart s = cutPartWith s (countOf s)
+
+-- the bytes of a part of n cuts
+abbrev pub cutBytes : ℕ → ℕ
+cutBytes n = bytesFor (cutBits n)
+
+-- ---- the refusal of a cut part; 0 for none
+
+-- bytes that follow come last
+abbrev pub cutFollows : List ℕ → Check
+cutFollows s = check 6 (ltb (cutBytes (countOf s)) (length s))
+
+unfoldable pub cutChecks : Task → List ℕ → List Check
+cutChecks t s = checksOf (cutEntries t (ofCutPart s)) ++ (cutFollows s ∷ [])
+
+unfoldable pub judgeCuts : Task → List ℕ → ℕ
+judgeCuts t s = refusal (cutChecks t s)
