@@ -1,29 +1,25 @@
 -- The cut part, there and back: what an accepted part says of each field, what its bytes are read as, and that it is written as it was read.
 use Prim.Native.Nat.{ℕ, zero, suc, _+_, _-_, _*_, _≤_, _<_}
-use native.Mathlib.Nat.{mul-le-mul, le-refl, suc-mul}
 use native.Mathlib.Omega.{arith}
-use mathlib.Core.Path.{_≡_, refl, sym, ap, ap₂, _∙_, subst}
-use mathlib.Core.Bool.{Bool, true, false, not}
+use mathlib.Core.Path.{_≡_, refl, sym, ap, ap₂, subst}
+use mathlib.Core.Bool.{true, not}
 use mathlib.Core.List.{List, [], _∷_, _++_}
 use lib.ListN.{length}
-use lib.Pow.{pow-pos}
-use borrow.Author.Tests.{leb-true, not-false}
-use Rattle.task.specs.Task.{Task, Accepted, columnCount}
+use borrow.Author.Tests.{not-false}
+use Rattle.task.specs.Task.{Task}
 use Rattle.task.specs.Loops.{tab}
 use Rattle.task.proofs.LoopLaws.{tab-length, tab-ext}
 use Rattle.fields.specs.Bits.{fieldAt}
-use Rattle.fields.specs.Judging.{Field, Entry, onSheet, entry, free, outside, judged, each}
-use Rattle.fields.specs.Packing.{bitsIn, bytesFor, sheetOf}
-use Rattle.fields.proofs.JudgingLaws.{both, first-fine, judged-at, inside-means, sheet-here, each-ext, last-both, last-went, passed, passes, no-checks}
-use Rattle.fields.proofs.PutLaws.{Bytes}
-use Rattle.fields.proofs.PackingLaws.{Holds, Fit, bits-append, bits-each, holds-append, holds-split, holds-each, holds-at, fit-append, fit-each, holds-fit, sheet-length, sheet-holds, sheet-bytes, sheet-only}
+use Rattle.fields.specs.Judging.{Entry, onSheet, entry, free, outside, judged, each}
+use Rattle.fields.specs.Packing.{bitsIn, bytesFor}
+use Rattle.fields.proofs.JudgingLaws.{both, first-fine, judged-at, inside-means, sheet-here, each-ext}
+use Rattle.fields.proofs.PackingLaws.{Holds, bits-append, bits-each, holds-append, holds-split, holds-each, holds-at}
 use Rattle.blocks.specs.declared.Cut.{Cut}
 use Rattle.blocks.specs.Blocks.{cutOk, cutsOk, accepted, blocksOf}
-use Rattle.blocks.proofs.PartLaws.{fits}
-use Rattle.blocks.proofs.CutLaws.{accepted-more, blocks-length}
+use Rattle.blocks.proofs.CutLaws.{accepted-more}
 use Rattle.sheets.specs.ModelSheet.{fillBits, fillPart}
 use Rattle.sheets.proofs.RoundLaws.{fill-fine, same-field}
-use Rattle.cut_sheets.specs.CutPart.{CutFields, CutSource, cutIn, cutsIn, cutHeader, cutPart, cutBits, cutFields, cutEntries, countOf, cutOn, cutPartWith, ofCutPart, cutBytes, cutChecks, judgeCuts}
+use Rattle.cut_sheets.specs.CutPart.{CutFields, CutSource, cutNamed, cutsNamed, cutHeader, cutPart, cutBits, cutFields, cutOn, cutPartWith, cutBytes}
 
 -- ---- bits
 pub cut-bits : (t : Task) (c : ℕ → CutFields) (i : ℕ) → bitsIn (cutPart t c i) ≡ 44
@@ -111,14 +107,14 @@ pub record CutFine (t : Task) (c : ℕ → CutFields) (i : ℕ) : Type 0 where
   pub block : c i .block .here ≡ true
   pub column : c i .column .here ≡ true
   pub wanted : c i .wanted .here ≡ true
-  pub ok : cutOk t (blocksOf t (cutsIn c i)) (cutIn (c i)) ≡ true
+  pub ok : cutOk t (blocksOf t (cutsNamed c i)) (cutNamed (c i)) ≡ true
 
 pub cut-fine : (t : Task) (c : ℕ → CutFields) (i : ℕ) → judged (cutPart t c i) ≡ 0 → CutFine t c i
 unfolding cutPart
 cut-fine t c i h =
     let a = first-fine (free 8 (c i .block)) _ (omega arith) h in
     let b = first-fine (free 4 (c i .column)) _ (omega arith) (a .1) in
-    let d = first-fine (entry 32 (c i .wanted) 9 (not (cutOk t (blocksOf t (cutsIn c i)) (cutIn (c i))))) [] (omega arith) (b .1) in
+    let d = first-fine (entry 32 (c i .wanted) 9 (not (cutOk t (blocksOf t (cutsNamed c i)) (cutNamed (c i))))) [] (omega arith) (b .1) in
     record { block = a .0 .0; column = b .0 .0; wanted = d .0 .0; ok = not-false _ (d .0 .1) }
 
 pub record PartFine (t : Task) (p : CutSource) (n : ℕ) : Type 0 where
@@ -143,17 +139,17 @@ part-fine t p n h =
     }
 
 -- ---- the cuts of an accepted part are accepted
-pub cuts-more : (c : ℕ → CutFields) (i : ℕ) → cutsIn c (suc i) ≡ cutsIn c i ++ (cutIn (c i) ∷ [])
-unfolding cutsIn tab
+pub cuts-more : (c : ℕ → CutFields) (i : ℕ) → cutsNamed c (suc i) ≡ cutsNamed c i ++ (cutNamed (c i) ∷ [])
+unfolding cutsNamed tab
 cuts-more c i = refl
 
-pub cuts-length : (c : ℕ → CutFields) (i : ℕ) → length (cutsIn c i) ≡ i
-unfolding cutsIn
-cuts-length c i = tab-length i (λ k. cutIn (c k))
+pub cuts-length : (c : ℕ → CutFields) (i : ℕ) → length (cutsNamed c i) ≡ i
+unfolding cutsNamed
+cuts-length c i = tab-length i (λ k. cutNamed (c k))
 
-pub cuts-accepted : (t : Task) (c : ℕ → CutFields) (n : ℕ) → ((i : ℕ) → i < n → cutOk t (blocksOf t (cutsIn c i)) (cutIn (c i)) ≡ true) → accepted t (cutsIn c n) ≡ true
-cuts-accepted t c zero h = unfold cutsIn accepted cutsOk tab in refl
-cuts-accepted t c (suc n) h = rw (cuts-more c n) (accepted-more t (cutsIn c n) (cutIn (c n)) (cuts-accepted t c n (λ i l. h i (omega arith))) (h n (omega arith)))
+pub cuts-accepted : (t : Task) (c : ℕ → CutFields) (n : ℕ) → ((i : ℕ) → i < n → cutOk t (blocksOf t (cutsNamed c i)) (cutNamed (c i)) ≡ true) → accepted t (cutsNamed c n) ≡ true
+cuts-accepted t c zero h = unfold cutsNamed accepted cutsOk tab in refl
+cuts-accepted t c (suc n) h = rw (cuts-more c n) (accepted-more t (cutsNamed c n) (cutNamed (c n)) (cuts-accepted t c n (λ i l. h i (omega arith))) (h n (omega arith)))
 
 -- ---- the same fields
 pub record SameCuts (p q : CutSource) (n : ℕ) : Type 0 where
@@ -163,14 +159,14 @@ pub record SameCuts (p q : CutSource) (n : ℕ) : Type 0 where
   pub fill : p .fill ≡ q .fill
 
 module _ (t : Task) (p q : CutSource) (n : ℕ) (e : SameCuts p q n) where
-  pub same-cuts : (i : ℕ) → i ≤ n → cutsIn (p .cut) i ≡ cutsIn (q .cut) i
-  unfolding cutsIn
-  same-cuts i h = tab-ext i (λ k. cutIn (p .cut k)) (λ k. cutIn (q .cut k)) (λ k l. ap cutIn (e .cut k (omega arith)))
+  pub same-cuts : (i : ℕ) → i ≤ n → cutsNamed (p .cut) i ≡ cutsNamed (q .cut) i
+  unfolding cutsNamed
+  same-cuts i h = tab-ext i (λ k. cutNamed (p .cut k)) (λ k. cutNamed (q .cut k)) (λ k l. ap cutNamed (e .cut k (omega arith)))
 
   same-cut : (i : ℕ) → i < n → cutPart t (p .cut) i ≡ cutPart t (q .cut) i
   unfolding cutPart
   same-cut i h =
-      ap₂ (λ (f : CutFields) (cs : List Cut). free 8 (f .block) ∷ free 4 (f .column) ∷ entry 32 (f .wanted) 9 (not (cutOk t (blocksOf t cs) (cutIn f))) ∷ []) (e .cut i h) (same-cuts i (omega arith))
+      ap₂ (λ (f : CutFields) (cs : List Cut). free 8 (f .block) ∷ free 4 (f .column) ∷ entry 32 (f .wanted) 9 (not (cutOk t (blocksOf t cs) (cutNamed f))) ∷ []) (e .cut i h) (same-cuts i (omega arith))
 
   pub same-fields : cutFields t p n ≡ cutFields t q n
   unfolding cutFields

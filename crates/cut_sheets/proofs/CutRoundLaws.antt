@@ -1,15 +1,15 @@
 -- Cuts written and read back are the same, and accepted bytes of a cut part come back the same.
 use Prim.Native.Nat.{ℕ, _+_, _-_, _*_, _^_, _≤_, _<_}
 use native.Mathlib.Omega.{arith}
-use mathlib.Core.Path.{_≡_, refl, sym, ap, ap₂, _∙_, subst}
-use mathlib.Core.List.{List, [], _∷_, _++_}
+use mathlib.Core.Path.{_≡_, refl, sym, ap, _∙_, subst}
+use mathlib.Core.List.{List, [], _++_}
 use mathlib.Core.Bool.{true}
 use lib.ListN.{length}
 use lib.Dec.{ltb}
 use lib.Pow.{pow-pos}
 use borrow.Author.Tests.{leb-true, le-ltb, ltb-false}
-use Rattle.task.specs.Task.{Task, Accepted, columnCount}
-use Rattle.fields.specs.Judging.{Field, Entry, judged, each}
+use Rattle.task.specs.Task.{Task, Accepted}
+use Rattle.fields.specs.Judging.{Field, Entry, judged}
 use Rattle.fields.specs.Packing.{bitsIn, sheetOf}
 use Rattle.fields.proofs.JudgingLaws.{last-both, last-went, passed, passes, no-checks}
 use Rattle.fields.proofs.PutLaws.{Bytes}
@@ -18,20 +18,20 @@ use Rattle.blocks.specs.Blocks.{accepted, blocksOf}
 use Rattle.blocks.proofs.PartLaws.{fits}
 use Rattle.blocks.proofs.CutLaws.{blocks-length}
 use Rattle.sheets.specs.ModelSheet.{fillBits, fillPart}
-use Rattle.cut_sheets.specs.CutPart.{CutFields, CutSource, cutIn, cutsIn, cutHeader, cutPart, cutBits, cutFields, cutEntries, countOf, cutOn, cutPartWith, ofCutPart, cutBytes, cutChecks, judgeCuts}
+use Rattle.cut_sheets.specs.CutPart.{CutFields, CutSource, cutNamed, cutsNamed, cutHeader, cutPart, cutBits, cutFields, cutEntries, countOf, cutOn, cutPartWith, ofCutPart, cutBytes, cutChecks, judgeCuts}
 use Rattle.cut_sheets.proofs.CutPartLaws.{H, C, F, cut-whole, part-bits, CutReads, holds-reads, reads-holds, CutFine, PartFine, part-fine, cuts-length, cuts-accepted, SameCuts, same-cuts, same-fields, reads-same}
 
 -- a cut that is accepted has room in its fields
 module _ (t : Task) (v : Accepted t) (c : ℕ → CutFields) (i : ℕ) (h : i < 255) (ok : CutFine t c i) where
   pub block-fits : c i .block .value < 256
-  unfolding cutIn
+  unfolding cutNamed
   block-fits =
-      let f = fits t (blocksOf t (cutsIn c i)) (cutIn (c i)) (ok .ok) in
-      omega (arith, f .made, blocks-length t (cutsIn c i), cuts-length c i)
+      let f = fits t (blocksOf t (cutsNamed c i)) (cutNamed (c i)) (ok .ok) in
+      omega (arith, f .made, blocks-length t (cutsNamed c i), cuts-length c i)
 
   pub column-fits : c i .column .value < 16
-  unfolding cutIn
-  column-fits = let f = fits t (blocksOf t (cutsIn c i)) (cutIn (c i)) (ok .ok) in omega (arith, f .there, v .columns .1)
+  unfolding cutNamed
+  column-fits = let f = fits t (blocksOf t (cutsNamed c i)) (cutNamed (c i)) (ok .ok) in omega (arith, f .there, v .columns .1)
 
 -- ---- written and read back
 module _ (t : Task) (v : Accepted t) (p : CutSource) (ok : judged (cutEntries t p) ≡ 0) (sets : (i : ℕ) → i < p .count .value → p .cut i .wanted .value < 2 ^ 32) where
@@ -81,8 +81,8 @@ module _ (t : Task) (v : Accepted t) (p : CutSource) (ok : judged (cutEntries t 
       ap (λ (x : ℕ). cutFields t (ofCutPart T) x) (ap (λ (f : Field). f .value) (written-same .count)) ∙ same-fields t (ofCutPart T) p n written-same
 
   -- and are read back as the same cuts
-  pub written-cuts : cutsIn (ofCutPart T .cut) (countOf T) ≡ cutsIn (p .cut) n
-  written-cuts = ap (cutsIn (ofCutPart T .cut)) (written-reads .count) ∙ same-cuts t (ofCutPart T) p n written-same n (omega arith)
+  pub written-cuts : cutsNamed (ofCutPart T .cut) (countOf T) ≡ cutsNamed (p .cut) n
+  written-cuts = ap (cutsNamed (ofCutPart T .cut)) (written-reads .count) ∙ same-cuts t (ofCutPart T) p n written-same n (omega arith)
 
   -- with no refusal
   pub written-accepted : judgeCuts t T ≡ 0
@@ -105,7 +105,7 @@ module _ (t : Task) (s : List ℕ) (ok : judgeCuts t s ≡ 0) where
   own-fine = part-fine t (ofCutPart s) (countOf s) (split-ok .0)
 
   -- the cuts of an accepted part are accepted
-  pub own-accepted : accepted t (cutsIn (cutOn s) (countOf s)) ≡ true
+  pub own-accepted : accepted t (cutsNamed (cutOn s) (countOf s)) ≡ true
   unfolding ofCutPart cutPartWith
   own-accepted = cuts-accepted t (cutOn s) (countOf s) (λ i l. own-fine .cut i l .ok)
 

@@ -8,7 +8,7 @@ use Rattle.task.specs.Sizes.{limits}
 use Rattle.task.specs.Loops.{tab}
 use Rattle.task.specs.Task.{Task, column, block}
 use Rattle.fields.specs.Bits.{fieldAt}
-use Rattle.fields.specs.Judging.{Field, Entry, Check, onSheet, entry, free, outside, check, checksOf, refusal, judged, each}
+use Rattle.fields.specs.Judging.{Field, Entry, Check, onSheet, entry, free, outside, check, checksOf, refusal, each}
 use Rattle.fields.specs.Packing.{bytesFor}
 use Rattle.blocks.specs.declared.Cut.{Cut}
 use Rattle.blocks.specs.Blocks.{cutOk, blocksOf}
@@ -28,11 +28,11 @@ pub record CutSource : Type 0 where
   pub fill : Field
 
 -- the cut that three fields name, and the first i cuts
-unfoldable pub cutIn : CutFields → Cut
-cutIn f = record { block = block (f .block .value); column = column (f .column .value); wanted = f .wanted .value }
+unfoldable pub cutNamed : CutFields → Cut
+cutNamed f = record { block = block (f .block .value); column = column (f .column .value); wanted = f .wanted .value }
 
-unfoldable pub cutsIn : (ℕ → CutFields) → ℕ → List Cut
-cutsIn c i = tab i (λ k. cutIn (c k))
+unfoldable pub cutsNamed : (ℕ → CutFields) → ℕ → List Cut
+cutsNamed c i = tab i (λ k. cutNamed (c k))
 
 -- ---- the fields in sheet order, each with its bits and what is refused of its value
 
@@ -45,7 +45,7 @@ unfoldable pub cutPart : Task → (ℕ → CutFields) → ℕ → List Entry
 cutPart t c i =
     free 8 (c i .block)
     ∷ free 4 (c i .column)
-    ∷ entry 32 (c i .wanted) 9 (not (cutOk t (blocksOf t (cutsIn c i)) (cutIn (c i))))
+    ∷ entry 32 (c i .wanted) 9 (not (cutOk t (blocksOf t (cutsNamed c i)) (cutNamed (c i))))
     ∷ []
 
 -- how many bits n cuts take: cut n would begin there
