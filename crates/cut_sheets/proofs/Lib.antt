@@ -1,2 +1,3 @@
 pub mod CutPartLaws
 pub mod CutRoundLaws
+pub mod CutRefusalLaws
