@@ -133,6 +133,50 @@ chainCuts = cut 0 0 8 ∷ cut 0 0 4 ∷ cut 0 0 2 ∷ cut 1 1 2 ∷ cut 2 1 2 �
 abbrev chainRows : List Row
 chainRows = row 0 65535 393210 ∷ row 1 65535 327675 ∷ row 2 65535 262140 ∷ row 3 65535 196605 ∷ row 0 65535 131070 ∷ row 1 65535 65535 ∷ row 2 65535 0 ∷ []
 
+-- ---- models on which a wrong reading of the rules shows
+
+-- the lowest step before the lowest block: the other way round the plan would be 2, 0, 1
+abbrev stepFirst : Task
+stepFirst = record {
+  columns = sized 2 0 (some 1) ∷ sized 2 0 (some 0) ∷ sized 2 0 (some 1) ∷ [];
+  steps =
+      costing 1 (kept ∷ some 1 ⇒ some 0 ∷ kept ∷ [])
+      ∷ costing 1 (kept ∷ kept ∷ none ⇒ some 1 ∷ [])
+      ∷ costing 1 (some 0 ⇒ some 1 ∷ none ⇒ some 1 ∷ kept ∷ [])
+      ∷ [];
+}
+
+-- the lowest block for that step: with the highest the run would end open
+abbrev blockNext : Task
+blockNext = record {
+  columns = sized 2 0 (some 1) ∷ sized 3 0 (some 1) ∷ [];
+  steps =
+      costing 1 (none ⇒ some 1 ∷ kept ∷ [])
+      ∷ costing 1 (kept ∷ some 2 ⇒ some 1 ∷ [])
+      ∷ costing 1 (kept ∷ none ⇒ some 1 ∷ [])
+      ∷ [];
+}
+
+-- a divergence whose next block's set, {0, 2}, reaches outside the block's own, {1, 2}: the last cut lists {2}
+abbrev within : Task
+within = record {
+  columns = sized 3 0 (some 0) ∷ sized 3 0 (some 1) ∷ [];
+  steps =
+      costing 1 (some 1 ⇒ none ∷ none ⇒ some 1 ∷ [])
+      ∷ costing 1 (kept ∷ some 1 ⇒ some 2 ∷ [])
+      ∷ costing 1 (kept ∷ some 2 ⇒ some 1 ∷ [])
+      ∷ costing 1 (none ⇒ some 1 ∷ kept ∷ [])
+      ∷ costing 3 (none ⇒ some 0 ∷ kept ∷ [])
+      ∷ [];
+}
+
+-- among equal costs the fewer steps: without them the plan would be 1, 0
+abbrev fewerSteps : Task
+fewerSteps = record {
+  columns = sized 3 0 (some 2) ∷ [];
+  steps = costing 1 (some 1 ⇒ some 2 ∷ []) ∷ costing 2 (none ⇒ some 1 ∷ []) ∷ costing 3 (none ⇒ some 2 ∷ []) ∷ [];
+}
+
 -- ---- the statement
 
 pub list : List Example
@@ -150,6 +194,10 @@ list =
     ∷ running (one (some 0)) 1 (steps []) [] []
     ∷ running chain 8 (steps (0 ∷ 1 ∷ 2 ∷ 3 ∷ 0 ∷ 1 ∷ 2 ∷ [])) (chainCuts ++ (cut 0 1 2 ∷ [])) chainRows
     ∷ running chain 7 («open» 196605) chainCuts []
+    ∷ running stepFirst 6 (steps (1 ∷ 2 ∷ 0 ∷ [])) (cut 0 0 2 ∷ cut 1 1 1 ∷ cut 2 2 2 ∷ cut 1 2 2 ∷ cut 0 2 2 ∷ []) (row 1 1 2 ∷ row 2 1 1 ∷ row 0 1 0 ∷ [])
+    ∷ running blockNext 5 (steps (0 ∷ 2 ∷ [])) (cut 0 0 2 ∷ cut 1 1 2 ∷ cut 0 1 2 ∷ cut 1 1 4 ∷ []) (row 0 1 1 ∷ row 2 1 0 ∷ [])
+    ∷ running within 6 (steps (3 ∷ 0 ∷ 4 ∷ [])) (cut 0 1 2 ∷ cut 0 0 2 ∷ cut 0 1 4 ∷ cut 1 0 1 ∷ cut 1 0 4 ∷ []) (row 3 1 4 ∷ row 0 1 3 ∷ row 4 3 0 ∷ [])
+    ∷ running fewerSteps 3 (steps (2 ∷ [])) (cut 0 0 4 ∷ cut 0 0 2 ∷ []) (row 2 3 0 ∷ [])
     ∷ []
 
 pub examples : map answered list ≡ list
