@@ -1,12 +1,11 @@
 -- Laws of numbers put into a table one after the other.
 use Prim.Native.Nat.{ℕ, zero, suc, _+_, _*_, _≤_, _<_}
-use native.Mathlib.Nat.{add-assoc, add-zero, suc-mul, mul-le-mul, le-refl, le-of-suc-le-suc}
-use native.Mathlib.Numerals.{add-one}
+use native.Mathlib.Nat.{add-zero, zero-add, suc-mul, mul-le-mul, le-refl, le-of-suc-le-suc}
 use native.Mathlib.Omega.{arith}
 use native.Mathlib.Decide.{decLt}
-use mathlib.Core.Path.{_≡_, refl, sym, ap, _∙_, subst}
+use mathlib.Core.Path.{_≡_, refl, sym, ap, _∙_}
 use mathlib.Core.List.{List, [], _∷_, _++_, append-assoc}
-use lib.ListN.{length, getD, set, take, drop, length-set, length-append}
+use lib.ListN.{length, getD, set, drop, length-set, length-append}
 use Rattle.fields.specs.Judging.{each}
 use Rattle.fields.specs.Places.{puts}
 use Rattle.fields.proofs.JudgingLaws.{each-more}
@@ -37,6 +36,9 @@ module _ (f : ℕ → List ℕ) (c : ℕ) (same : (i : ℕ) → length (f i) ≡
       sym
       (ap (λ (x : List ℕ). puts at x l) (each-more i f) ∙ puts-append at (each i f) (f i) l
       ∙ ap (λ (x : ℕ). puts (at + x) (f i) (puts at (each i f) l)) (each-length f c same i) ∙ ap (puts (at + i * c) (f i)) (sym e))
+
+pub puts-next : (f : ℕ → List ℕ) (c : ℕ) → ((i : ℕ) → length (f i) ≡ c) → (i : ℕ) (l : List ℕ) {t : List ℕ} → t ≡ puts 0 (each i f) l → puts (i * c) (f i) t ≡ puts 0 (each (i + 1) f) l
+puts-next f c same i l {t} e = ap (λ (x : ℕ). puts x (f i) t) (sym (zero-add (i * c))) ∙ puts-more f c same 0 i l e
 
 pub puts-none : (at : ℕ) (f : ℕ → List ℕ) (l : List ℕ) → l ≡ puts at (each 0 f) l
 unfolding puts each

@@ -1,3 +1,4 @@
 pub mod SheetLaws
 pub mod HoldLaws
 pub mod RoundLaws
+pub mod TableLaws

@@ -1,1 +1,3 @@
 pub mod ModelSheet
+pub mod LentTables
+pub mod Holding

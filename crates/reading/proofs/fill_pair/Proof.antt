@@ -1,0 +1,122 @@
+use Prim.Native.Nat.{ℕ, _+_, _*_}
+use mathlib.Core.Path.{_≡_, ap, _∙_}
+use native.Mathlib.Omega.{arith}
+use lib.ListN.{set, length-set}
+use Rattle.sheets.specs.LentTables.{markValues}
+use Rattle.sheets.specs.ModelSheet.{marksOn, modelBits}
+use Rattle.fields.specs.Places.{puts}
+use Rattle.fields.proofs.FieldLaws.{field-lt}
+use Rattle.fields.specs.Bits.{fieldAt}
+use borrow.Author.Needs.{needs}
+use Rattle.reading.proofs.fill_pair.Statement.{statement}
+use Rattle.reading.proofs.fill_pair.Tie as tie
+use Rattle.reading.proofs.fill_pair.Reads as reads
+use Rattle.reading.proofs.fill_pair.Lts as lts
+use Rattle.fields.proofs.field.field.Reads as field-reads
+use Rattle.sheets.proofs.model_bits.Reads as model-bits-reads
+
+-- src/lib.rt:77:14
+model-bits-requires : tie.Need-model-bits-requires
+model-bits-requires c κs = search needs
+
+-- src/lib.rt:77:14
+add-at : tie.Need-add-at
+add-at c = search needs
+
+-- src/lib.rt:77:38
+mul-at : tie.Need-mul-at
+mul-at c = search needs
+
+-- src/lib.rt:77:14
+add-at-2 : tie.Need-add-at-2
+add-at-2 c = search needs
+
+-- src/lib.rt:78:22
+mul-place : tie.Need-mul-place
+mul-place c = search needs
+
+-- src/lib.rt:78:17
+mul-place-2 : tie.Need-mul-place-2
+mul-place-2 c = search needs
+
+-- src/lib.rt:78:31
+mul-place-3 : tie.Need-mul-place-3
+mul-place-3 c = search needs
+
+-- src/lib.rt:78:17
+add-place : tie.Need-add-place
+add-place c = search needs
+
+-- src/lib.rt:79:20
+field-requires : tie.Need-field-requires
+field-requires c κs = search needs
+
+-- src/lib.rt:79:20
+cast-marks : tie.Need-cast-marks
+cast-marks c =
+    let a = c .before .before .before .before .args in
+    omega (arith, field-lt (a .s .now) (c .before .model-bits .result + 16 + a .i * 12) 6)
+
+-- src/lib.rt:79:5
+slice-write-marks : tie.Need-slice-write-marks
+slice-write-marks c = search needs
+
+-- src/lib.rt:80:33
+add-field : tie.Need-add-field
+add-field c = search needs
+
+-- src/lib.rt:80:24
+field-requires-2 : tie.Need-field-requires-2
+field-requires-2 c κs = search needs
+
+-- src/lib.rt:80:24
+cast-marks-2 : tie.Need-cast-marks-2
+cast-marks-2 c =
+    let a = c .before .before .before .before .before .args in
+    omega (arith, field-lt (a .s .now) (c .before .before .model-bits .result + 16 + a .i * 12 + 6) 6)
+
+-- src/lib.rt:80:11
+add-marks : tie.Need-add-marks
+add-marks c = search needs
+
+-- src/lib.rt:80:5
+slice-write-marks-2 : tie.Need-slice-write-marks-2
+slice-write-marks-2 c =
+    simp length-set (omega arith)
+
+-- src/lib.rt:73:1
+same-length : tie.Need-same-length
+same-length c = search needs
+
+-- src/lib.rt:73:1
+returns : tie.Need-returns
+unfolding puts markValues marksOn
+returns c =
+    let a = c .before .before .before .before .before .args in
+    let q = c .before .before .model-bits .ensures .0 in
+    let e : c .before .field .result ≡ fieldAt (a .s .now) (modelBits (a .n) (a .j) + 16 + a .i * 12) 6 = c .before .field .ensures ∙ ap (λ (x : ℕ). fieldAt (a .s .now) (x + 16 + a .i * 12) 6) q in
+    let f : c .field2 .result ≡ fieldAt (a .s .now) (modelBits (a .n) (a .j) + 16 + a .i * 12 + 6) 6 = c .field2 .ensures ∙ ap (λ (x : ℕ). fieldAt (a .s .now) (x + 16 + a .i * 12 + 6) 6) q in
+    λ k. set (set (a .marks .now) (a .j * (a .n * 2) + a .i * 2) (e k)) (a .j * (a .n * 2) + a .i * 2 + 1) (f k)
+
+pub fill-pair-spec : {M : Type 1} → statement M
+fill-pair-spec =
+    tie.close
+    (tie.spec
+    model-bits-requires
+    add-at
+    mul-at
+    add-at-2
+    mul-place
+    mul-place-2
+    mul-place-3
+    add-place
+    field-requires
+    cast-marks
+    slice-write-marks
+    add-field
+    field-requires-2
+    cast-marks-2
+    add-marks
+    slice-write-marks-2
+    same-length
+    returns)

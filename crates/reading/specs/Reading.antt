@@ -1,0 +1,32 @@
+-- Reading a model sheet into lent tables: the answer, and what the tables then hold.
+use Prim.Native.Nat.{ℕ}
+use mathlib.Core.List.{List}
+use lib.Dec.{eqb}
+use Rattle.task.specs.Loops.{over}
+use Rattle.fields.specs.Judging.{pick, refusal}
+use Rattle.sheets.specs.ModelSheet.{columnsOf, stepsOf, ofSheet}
+use Rattle.sheets.specs.LentTables.{frameOf, costsOf, marksOf, readChecks}
+use Rattle.reading.specs.declared.ModelRead.{ModelRead}
+use Rattle.reading.specs.declared.ModelRead.the-variants.{Held, Refused}
+
+-- an answer's refusal number; 0 for none
+unfoldable pub number : ModelRead → ℕ
+number (Held columns steps) = 0
+number (Refused n) = n
+
+pub record Outcome : Type 0 where
+  pub answer : ModelRead
+  pub frame : List ℕ
+  pub costs : List ℕ
+  pub marks : List ℕ
+
+abbrev pub outcome : ModelRead → List ℕ → List ℕ → List ℕ → Outcome
+outcome a frame costs marks = record { answer = a; frame = frame; costs = costs; marks = marks }
+
+-- a refusal returns only its number and changes nothing lent; else the tables hold the model, and places past the last one used stay
+unfoldable pub reading : List ℕ → List ℕ → List ℕ → List ℕ → Outcome
+reading s frame costs marks =
+    let n = refusal (readChecks s frame costs marks) in
+    pick (eqb n 0)
+    (outcome (Held (columnsOf s) (stepsOf s)) (over (frameOf (ofSheet s)) frame) (over (costsOf (ofSheet s)) costs) (over (marksOf (ofSheet s)) marks))
+    (outcome (Refused n) frame costs marks)
