@@ -8,7 +8,7 @@ use Rattle.task.specs.Task.{Task}
 use Rattle.fields.specs.Judging.{checksOf}
 use Rattle.fields.proofs.RefusalLaws.{Numbered, EntriesNumbered, GivenBy, numbered-append, checks-numbered, entries-append, entries-each, exactly-when}
 use Rattle.sheets.specs.ModelSheet.{fillPart}
-use Rattle.cut_sheets.specs.CutPart.{CutSource, cutHeader, cutPart, cutBits, cutFields, cutEntries, ofCutPart, cutFollows, cutChecks, judgeCuts}
+use Rattle.cut_sheets.specs.CutPart.{CutSource, cutHeader, cutPart, cutFields, cutEntries, ofCutPart, cutFollows, cutChecks, judgeCuts}
 use Rattle.cut_sheets.proofs.CutPartLaws.{H, C, F}
 
 pub entries-numbered : (t : Task) (p : CutSource) (n : ℕ) → EntriesNumbered (cutFields t p n)

@@ -1,1 +1,2 @@
 pub mod CutPart
+pub mod CutSheet

@@ -134,8 +134,8 @@ base : (n m : ℕ) → 17 + n * 17 ≤ modelBits n m
 unfolding modelBits
 base n m = omega arith
 
--- bytes that have the values of accepted fields, and are as long as their sheet, have the same fields
-module _ (s : List ℕ) (p : Source) (n m : ℕ) (ok : Fine p n m) (r : Reads s p n m) (long : length s ≡ modelBytes n m) where
+-- bytes that have the values of accepted fields, and are at least as long as their sheet, have the same fields
+module _ (s : List ℕ) (p : Source) (n m : ℕ) (ok : Fine p n m) (r : Reads s p n m) (long : modelBytes n m ≤ length s) where
   here : (at w : ℕ) → at + w ≤ modelBits n m → onSheet s at w .here ≡ true
   here at w h = sheet-here s at w (omega (arith, whole-bytes n m))
 
@@ -206,7 +206,7 @@ module _ (p : Source) (ok : judged (entries p) ≡ 0) (costs : (j : ℕ) → j <
   -- the sheet of an accepted model has its fields
   pub written-same : Same (ofSheet T) p n m
   unfolding ofSheet
-  written-same = subst (λ (x : ℕ). Same (sheetWith T x (stepsOf T)) p n m) (sym (written-reads .columns)) (subst (λ (y : ℕ). Same (sheetWith T n y) p n m) (sym (written-reads .steps)) (reads-same T p n m good written-reads written-length))
+  written-same = subst (λ (x : ℕ). Same (sheetWith T x (stepsOf T)) p n m) (sym (written-reads .columns)) (subst (λ (y : ℕ). Same (sheetWith T n y) p n m) (sym (written-reads .steps)) (reads-same T p n m good written-reads (omega (arith, written-length))))
 
   pub written-entries : entries (ofSheet T) ≡ entries p
   unfolding entries
@@ -240,7 +240,7 @@ module _ (s : List ℕ) where
       }
 
   module _ (ok : judgeSheet s ≡ 0) where
-    own-fine : Fine (ofSheet s) (columnsOf s) (stepsOf s)
+    pub own-fine : Fine (ofSheet s) (columnsOf s) (stepsOf s)
     unfolding judgePart entries ofSheet sheetWith
     own-fine = accepted (ofSheet s) (columnsOf s) (stepsOf s) (sheet-fine s ok .0)
 

@@ -1,0 +1,207 @@
+-- The cut sheet, there and back: a given model that stands at the front of a cut sheet is its inner model, cuts written and read back are the
+-- same, and accepted bytes come back the same.
+use Prim.Native.Nat.{ℕ, _+_, _-_, _*_, _^_, _≤_, _<_}
+use native.Mathlib.Omega.{arith}
+use mathlib.Core.Path.{_≡_, refl, sym, ap, ap₂, _∙_}
+use mathlib.Core.Bool.{true, not}
+use mathlib.Core.List.{List, [], _∷_, _++_}
+use lib.ListN.{length, getD, take, drop, length-append, take-append-drop, List·getD-append}
+use lib.Dec.{eqb, leb, ltb}
+use lib.Seq.{ext-getD, getD-take, getD-drop, length-take-le, drop-at}
+use borrow.Author.Tests.{leb-true, le-leb, lt-ltb, eqb-true, eq-eqb, not-false}
+use Rattle.task.specs.Task.{Task, Accepted}
+use Rattle.task.proofs.LoopLaws.{and-left, and-right, and-both, all-at, all-intro}
+use Rattle.fields.specs.Judging.{Entry, judged, each, refusal, onSheet, inTable, given}
+use Rattle.fields.specs.Packing.{bitsIn, sheetOf}
+use Rattle.fields.proofs.JudgingLaws.{go, neither, last-both, last-went, passed, passes, refusal-append}
+use Rattle.fields.proofs.PartLaws.{field-take}
+use Rattle.fields.proofs.PlaceLaws.{each-length, each-at}
+use Rattle.fields.proofs.PutLaws.{Bytes}
+use Rattle.fields.proofs.PackingLaws.{Holds}
+use Rattle.sheets.specs.ModelSheet.{columnsOf, stepsOf, modelBytes, fieldsPart, ofSheet, sheetWith, entries, sheetChecks, judgeSheet, judgePart}
+use Rattle.sheets.proofs.SheetLaws.{sheet-fine}
+use Rattle.sheets.proofs.HoldLaws.{Reads, holds-reads, sheet-bits, whole-bytes}
+use Rattle.sheets.proofs.RoundLaws.{Same, same-fields, reads-same, own-holds, own-fine, exact-length, same-field}
+use Rattle.cut_sheets.specs.CutPart.{CutFields, cutsNamed, cutEntries, countOf, cutOn, ofCutPart, cutPartWith, cutChecks, judgeCuts}
+use Rattle.cut_sheets.specs.CutSheet.{taskOn, tailOf, atFront, cutSheetChecks, cutsOf, cutValues, cutList, cutIn, ofCuts, cutSheetOf}
+use Rattle.cut_sheets.proofs.CutPartLaws as part
+use Rattle.cut_sheets.proofs.CutPartLaws.{SameCuts, PartFine}
+use Rattle.cut_sheets.proofs.CutRoundLaws as round
+
+-- ---- bytes at the front
+pub front-take : (a s : List ℕ) → atFront a s ≡ true → (length a ≤ length s) × (take (length a) s ≡ a)
+unfolding atFront
+front-take a s h =
+    let n : length a ≤ length s = leb-true (length a) (length s) (and-left (leb (length a) (length s)) _ h) in
+    let same = all-at (length a) (λ i. eqb (getD a i 0) (getD s i 0)) (and-right (leb (length a) (length s)) _ h) in
+    let long : length (take (length a) s) ≡ length a = length-take-le (length a) s n in
+    (n, ext-getD 0 (take (length a) s) a long (λ i l. let k : i < length a = rw long at l in getD-take (length a) s i 0 k ∙ sym (eqb-true (getD a i 0) (getD s i 0) (same i k))))
+
+pub front-append : (a r : List ℕ) → atFront a (a ++ r) ≡ true
+unfolding atFront
+front-append a r =
+    and-both (le-leb (length a) (length (a ++ r)) (omega (arith, length-append a r)))
+    (all-intro (length a) _ (λ i l. eq-eqb (getD a i 0) (getD (a ++ r) i 0) (sym (List·getD-append a r 0 i l))))
+
+-- fields of the first bytes are fields of all
+holds-front : (s : List ℕ) (b at : ℕ) (es : List Entry) → at + bitsIn es ≤ 8 * b → Holds (take b s) at es → Holds s at es
+unfolding bitsIn
+holds-front s b at [] h p = tt
+holds-front s b at (e ∷ es) h p = (sym (field-take s b at (e .width) (omega arith)) ∙ p .0, holds-front s b (at + e .width) es (omega arith) (p .1))
+
+module _ (model : List ℕ) (ok : judgeSheet model ≡ 0) (s : List ℕ) (front : atFront model s ≡ true) where
+  abbrev n : ℕ
+  n = columnsOf model
+
+  abbrev m : ℕ
+  m = stepsOf model
+
+  inside : Reads s (ofSheet model) n m
+  unfolding entries ofSheet sheetWith
+  inside =
+      let f = front-take model s front in
+      let w : bitsIn (fieldsPart (ofSheet model) n m) ≡ 8 * length model = sheet-bits (ofSheet model) n m ∙ whole-bytes n m ∙ ap (λ (x : ℕ). 8 * x) (sym (exact-length model ok)) in
+      holds-reads s (ofSheet model) n m (holds-front s (length model) 0 (fieldsPart (ofSheet model) n m) (omega arith) (rw (f .1) (own-holds model ok)))
+
+  -- the counts of the inner model are those of the given one
+  pub same-columns : columnsOf s ≡ columnsOf model
+  unfolding ofSheet sheetWith
+  same-columns = inside .columns
+
+  pub same-steps : stepsOf s ≡ stepsOf model
+  unfolding ofSheet sheetWith
+  same-steps = inside .steps
+
+  pub inner-bytes : modelBytes (columnsOf s) (stepsOf s) ≡ length model
+  inner-bytes = ap₂ modelBytes same-columns same-steps ∙ sym (exact-length model ok)
+
+  -- the cut part starts where the given sheet ends
+  pub tail-is : tailOf s ≡ drop (length model) s
+  unfolding tailOf
+  tail-is = ap (λ (x : ℕ). drop x s) inner-bytes
+
+  pub whole-is : model ++ tailOf s ≡ s
+  whole-is = let f = front-take model s front in ap (λ (l : List ℕ). model ++ l) tail-is ∙ ap (λ (l : List ℕ). l ++ drop (length model) s) (sym (f .1)) ∙ take-append-drop (length model) s
+
+  inner-same : Same (sheetWith s n m) (ofSheet model) n m
+  inner-same = reads-same s (ofSheet model) n m (own-fine model ok) inside (omega (arith, front-take model s front .0, exact-length model ok))
+
+  -- the inner model has the given model's fields, so that it gets no refusal of its own
+  pub inner-entries : entries (ofSheet s) ≡ entries (ofSheet model)
+  unfolding entries ofSheet sheetWith
+  inner-entries = ap₂ (λ (x y : ℕ). fieldsPart (sheetWith s x y) x y) same-columns same-steps ∙ same-fields (sheetWith s n m) (ofSheet model) n m inner-same
+
+-- ---- the refusal of a cut sheet
+module _ (model s : List ℕ) where
+  abbrev t : Task
+  t = taskOn model
+
+  -- where the given model stands at the front, only the cut part can be refused
+  pub front-refusal : judgeSheet model ≡ 0 → atFront model s ≡ true → refusal (cutSheetChecks model s) ≡ judgeCuts t (tailOf s)
+  unfolding cutSheetChecks judgeSheet judgeCuts judged judgePart
+  front-refusal ok front =
+      let inner : judged (entries (ofSheet s)) ≡ 0 = ap judged (inner-entries model ok s front) ∙ sheet-fine model ok .0 in
+      refusal-append (sheetChecks model) _ ∙ go (refusal (sheetChecks model)) _ ok
+      ∙ sym (last-went (entries (ofSheet s)) _ (sym inner) refl (passes 10 (not (atFront model s)) (cutChecks t (tailOf s)) (rw front) refl))
+
+  -- an accepted cut sheet: an accepted model at its front, and an accepted cut part
+  pub sheet-accepted : refusal (cutSheetChecks model s) ≡ 0 → (judgeSheet model ≡ 0) × (atFront model s ≡ true) × (judgeCuts t (tailOf s) ≡ 0)
+  unfolding cutSheetChecks judgeSheet judgeCuts
+  sheet-accepted h =
+      let a = neither (refusal (sheetChecks model)) _ (sym (refusal-append (sheetChecks model) _) ∙ h) in
+      let b = last-both (entries (ofSheet s)) _ (a .1) in
+      let c = passed 10 (not (atFront model s)) (cutChecks t (tailOf s)) (omega arith) (b .1) in
+      (a .0, not-false (atFront model s) (c .0), c .1)
+
+-- ---- the list of cuts
+pub values-length : (c : ℕ → CutFields) (i : ℕ) → length (cutValues c i) ≡ 3
+unfolding cutValues
+values-length c i = refl
+
+module _ (c : ℕ → CutFields) (n i : ℕ) (h : i < n) where
+  pub block-place : getD (each n (cutValues c)) (i * 3) 0 ≡ c i .block .value
+  unfolding cutValues
+  block-place = ap (λ (x : ℕ). getD (each n (cutValues c)) x 0) (omega arith) ∙ each-at (cutValues c) 3 (values-length c) n i 0 h (omega arith)
+
+  pub column-place : getD (each n (cutValues c)) (i * 3 + 1) 0 ≡ c i .column .value
+  unfolding cutValues
+  column-place = each-at (cutValues c) 3 (values-length c) n i 1 h (omega arith)
+
+  pub wanted-place : getD (each n (cutValues c)) (i * 3 + 2) 0 ≡ c i .wanted .value
+  unfolding cutValues
+  wanted-place = each-at (cutValues c) 3 (values-length c) n i 2 h (omega arith)
+
+-- ---- written and read back
+module _ (model : List ℕ) (count : ℕ) (cuts : List ℕ) (v : Accepted (taskOn model)) (ok : judgeSheet model ≡ 0)
+    (good : judged (cutEntries (taskOn model) (ofCuts count cuts)) ≡ 0) (sets : (i : ℕ) → i < count → getD cuts (i * 3 + 2) 0 < 2 ^ 32) where
+  abbrev S : List ℕ
+  S = cutSheetOf model count cuts
+
+  abbrev P : List ℕ
+  P = sheetOf (cutEntries (taskOn model) (ofCuts count cuts))
+
+  front : atFront model S ≡ true
+  unfolding cutSheetOf
+  front = front-append model P
+
+  tail : tailOf S ≡ P
+  unfolding cutSheetOf
+  tail = tail-is model ok S front ∙ drop-at model P (length model) refl
+
+  wide : (i : ℕ) → i < ofCuts count cuts .count .value → ofCuts count cuts .cut i .wanted .value < 2 ^ 32
+  unfolding ofCuts cutIn
+  wide i h = sets i h
+
+  -- the sheet is accepted
+  pub written-accepted : refusal (cutSheetChecks model S) ≡ 0
+  unfolding cutEntries
+  written-accepted = front-refusal model S ok front ∙ ap (judgeCuts (taskOn model)) tail ∙ round.written-accepted (taskOn model) v (ofCuts count cuts) good wide
+
+  -- and has the cuts
+  pub written-cuts : cutsOf S ≡ cutsNamed (cutIn cuts) count
+  unfolding cutsOf cutEntries ofCutPart cutPartWith ofCuts
+  written-cuts = ap (λ (l : List ℕ). cutsNamed (cutOn l) (countOf l)) tail ∙ round.written-cuts (taskOn model) v (ofCuts count cuts) good wide
+
+-- ---- read and written again
+module _ (model s : List ℕ) (ok : refusal (cutSheetChecks model s) ≡ 0) where
+  abbrev T : List ℕ
+  T = tailOf s
+
+  abbrev K : ℕ
+  K = countOf T
+
+  fine : PartFine (taskOn model) (ofCutPart T) K
+  fine = round.own-fine (taskOn model) T (sheet-accepted model s ok .2)
+
+  there : (k : ℕ) → k < K * 3 → ltb k (length (cutList s)) ≡ true
+  unfolding cutList
+  there k h = lt-ltb k (length (cutList s)) (omega (arith, each-length (cutValues (cutOn T)) 3 (values-length (cutOn T)) K))
+
+  same : SameCuts (ofCuts K (cutList s)) (ofCutPart T) K
+  unfolding ofCuts cutIn cutList ofCutPart cutPartWith
+  same =
+      record {
+        form = same-field (given 2) (onSheet T 0 4) refl (fine .form .0) (sym (fine .form .1));
+        count = same-field (given K) (onSheet T 4 8) refl (fine .count .0) refl;
+        cut = λ i h k. record {
+          block = same-field (inTable (cutList s) (i * 3)) (cutOn T i .block) (there (i * 3) (omega arith)) (fine .cut i h .block) (block-place (cutOn T) K i h) k;
+          column = same-field (inTable (cutList s) (i * 3 + 1)) (cutOn T i .column) (there (i * 3 + 1) (omega arith)) (fine .cut i h .column) (column-place (cutOn T) K i h) k;
+          wanted = same-field (inTable (cutList s) (i * 3 + 2)) (cutOn T i .wanted) (there (i * 3 + 2) (omega arith)) (fine .cut i h .wanted) (wanted-place (cutOn T) K i h) k;
+        };
+        fill = same-field (given 0) (ofCutPart T .fill) refl (fine .fill .0) (sym (fine .fill .1));
+      }
+
+  listed-entries : cutEntries (taskOn model) (ofCuts K (cutList s)) ≡ cutEntries (taskOn model) (ofCutPart T)
+  unfolding cutEntries ofCuts ofCutPart cutPartWith
+  listed-entries = part.same-fields (taskOn model) (ofCuts K (cutList s)) (ofCutPart T) K same
+
+  tail-bytes : Bytes s → Bytes T
+  unfolding tailOf
+  tail-bytes b i = rw (getD-drop (modelBytes (columnsOf s) (stepsOf s)) s i 0) (b (modelBytes (columnsOf s) (stepsOf s) + i))
+
+  -- accepted bytes come back the same
+  pub read-write : Bytes s → cutSheetOf model K (cutList s) ≡ s
+  unfolding cutSheetOf
+  read-write b =
+      let a = sheet-accepted model s ok in
+      ap (λ (l : List ℕ). model ++ l) (ap sheetOf listed-entries ∙ round.read-write (taskOn model) T (a .2) (tail-bytes b)) ∙ whole-is model (a .0) s (a .1)
