@@ -1,0 +1,84 @@
+use mathlib.Core.Path.{_≡_, refl, sym, ap, _∙_}
+use Prim.Native.Nat.{ℕ, _+_, _*_, _-_, _^_, _≤_, _<_}
+use native.Mathlib.Omega.{arith}
+use lib.ListN.{length, getD, length-set}
+use Rattle.task.specs.Loops.{tab, over}
+use Rattle.task.proofs.LoopLaws.{over-none, over-more}
+use Rattle.blocks.specs.Masks.{markSet, needSet, needSets}
+use Rattle.blocks.proofs.FlatLaws.{over-all, over-set}
+use borrow.Author.Needs.{needs}
+use Rattle.blocks.proofs.fill_needs.Statement.{statement}
+use Rattle.blocks.proofs.fill_needs.Tie as tie
+use Rattle.blocks.proofs.fill_needs.Reads as reads
+use Rattle.blocks.proofs.fill_needs.Lts as lts
+use Rattle.blocks.proofs.mark_set.Reads as mark-set-reads
+
+abbrev Inv-loop : tie.InvT-loop
+Inv-loop needs₀ model i₀ needs i = (i ≤ 2048) × (length needs ≡ 2048) × (needs ≡ over (tab i (needSet model)) needs₀)
+
+abbrev μ-loop : tie.MeasureT-loop
+μ-loop needs₀ model i₀ needs i = 2048 - i
+
+-- src/lib.rt:59:5
+loop-holds : tie.Need-loop-holds Inv-loop μ-loop
+loop-holds c = (search needs, search needs, sym (over-none _ _))
+
+-- src/lib.rt:59:15
+mul-loop : tie.Need-mul-loop Inv-loop μ-loop
+mul-loop c = search needs
+
+-- src/lib.rt:60:29
+element-copy-out-mark-set : tie.Need-element-copy-out-mark-set Inv-loop μ-loop
+element-copy-out-mark-set c = search needs
+
+-- src/lib.rt:60:20
+mark-set-requires : tie.Need-mark-set-requires Inv-loop μ-loop
+mark-set-requires c κs = search needs
+
+-- src/lib.rt:60:9
+mul-needs : tie.Need-mul-needs Inv-loop μ-loop
+mul-needs c = search needs
+
+-- src/lib.rt:60:9
+element-write-needs : tie.Need-element-write-needs Inv-loop μ-loop
+element-write-needs c = search needs
+
+-- src/lib.rt:61:9
+add-i : tie.Need-add-i Inv-loop μ-loop
+add-i c = search needs
+
+-- src/lib.rt:59:5
+loop-less : tie.Need-loop-less Inv-loop μ-loop
+loop-less c = search needs
+
+-- src/lib.rt:59:5
+loop-again : tie.Need-loop-again Inv-loop μ-loop
+unfolding needSet
+loop-again c =
+    let l = c .before .before .before .loop in
+    (omega arith, simp length-set (l .inv .1), over-set (needSet (c .before .before .before .before .args .t1)) (l .i) _ (l .needs) (c .before .before .before .before .args .needs .now) (l .inv .2) (omega arith) (c .mark-set .ensures))
+
+-- src/lib.rt:54:1
+returns : tie.Need-returns Inv-loop μ-loop
+unfolding needSets
+returns c =
+    let l = c .before .loop in
+    let e : l .i ≡ 2048 = omega arith in
+    (rw e at (l .inv .2)) ∙ over-all 2048 (needSet (c .before .before .args .t1)) _ (omega arith)
+
+pub fill-needs-spec : {M : Type 1} → statement M
+fill-needs-spec =
+    tie.close
+    (tie.spec
+    Inv-loop
+    μ-loop
+    loop-holds
+    mul-loop
+    element-copy-out-mark-set
+    mark-set-requires
+    mul-needs
+    element-write-needs
+    add-i
+    loop-less
+    loop-again
+    returns)

@@ -1,0 +1,106 @@
+use mathlib.Core.Path.{_≡_, refl, sym, ap, _∙_}
+use mathlib.Core.Bool.{true, false}
+use Prim.Native.Nat.{ℕ, _+_, _*_, _-_, _≤_, _<_}
+use native.Mathlib.Omega.{arith}
+use lib.ListN.{getD}
+use borrow.Author.Tests.{not-true, not-false}
+use Rattle.task.specs.Loops.{all}
+use Rattle.task.proofs.LoopLaws.{all-more, all-fails}
+use Rattle.blocks.specs.Flat.{past}
+use Rattle.blocks.specs.Masks.{lies, passes, leadsBy, goalBy}
+use borrow.Author.Needs.{needs}
+use Rattle.blocks.proofs.is_goal_block.Statement.{statement}
+use Rattle.blocks.proofs.is_goal_block.Tie as tie
+use Rattle.blocks.proofs.is_goal_block.Reads as reads
+use Rattle.blocks.proofs.is_goal_block.Lts as lts
+use Rattle.blocks.proofs.lies.Reads as lies-reads
+
+abbrev Inv-loop : tie.InvT-loop
+Inv-loop columns goals sets ra j₀ j = (j ≤ columns) × (all j (λ i. lies (getD goals i 0) (past sets ra i)) ≡ true)
+
+abbrev μ-loop : tie.MeasureT-loop
+μ-loop columns goals sets ra j₀ j = columns - j
+
+-- src/lib.rt:197:14
+cast-ra : tie.Need-cast-ra Inv-loop μ-loop
+cast-ra c = search needs
+
+-- src/lib.rt:197:14
+mul-ra : tie.Need-mul-ra Inv-loop μ-loop
+mul-ra c = search needs
+
+-- src/lib.rt:199:5
+loop-holds : tie.Need-loop-holds Inv-loop μ-loop
+unfolding all
+loop-holds c = (omega arith, refl)
+
+-- src/lib.rt:200:18
+mul-lies : tie.Need-mul-lies Inv-loop μ-loop
+mul-lies c = search needs
+
+-- src/lib.rt:200:18
+element-copy-out-lies : tie.Need-element-copy-out-lies Inv-loop μ-loop
+element-copy-out-lies c = search needs
+
+-- src/lib.rt:200:33
+add-lies : tie.Need-add-lies Inv-loop μ-loop
+add-lies c = search needs
+
+-- src/lib.rt:200:28
+mul-lies-2 : tie.Need-mul-lies-2 Inv-loop μ-loop
+mul-lies-2 c = search needs
+
+-- src/lib.rt:200:28
+element-copy-out-lies-2 : tie.Need-element-copy-out-lies-2 Inv-loop μ-loop
+element-copy-out-lies-2 c = search needs
+
+-- src/lib.rt:200:13
+lies-requires : tie.Need-lies-requires Inv-loop μ-loop
+lies-requires c κs = search needs
+
+-- src/lib.rt:201:13
+returns : tie.Need-returns Inv-loop μ-loop
+unfolding goalBy past
+returns c = sym (all-fails _ _ (c .before .before .before .before .before .loop .j) (c .before .before .before .before .loop-test .taken) (sym (c .before .lies .ensures) ∙ not-true _ (c .if1 .taken)))
+
+-- src/lib.rt:203:9
+add-j : tie.Need-add-j Inv-loop μ-loop
+add-j c = search needs
+
+-- src/lib.rt:199:5
+loop-less : tie.Need-loop-less Inv-loop μ-loop
+loop-less c = search needs
+
+-- src/lib.rt:199:5
+loop-again : tie.Need-loop-again Inv-loop μ-loop
+unfolding past
+loop-again c = (omega arith, all-more _ _ (c .before .before .before .before .before .loop .inv .1) (sym (c .before .lies .ensures) ∙ not-false _ (c .if1 .left)))
+
+-- src/lib.rt:188:1
+returns-2 : tie.Need-returns-2 Inv-loop μ-loop
+unfolding goalBy past
+returns-2 c =
+    let l = c .before .loop in
+    let e : l .j ≡ c .before .before .before .args .columns = omega arith in
+    rw e at (sym (l .inv .1))
+
+pub is-goal-block-spec : {M : Type 1} → statement M
+is-goal-block-spec =
+    tie.close
+    (tie.spec
+    Inv-loop
+    μ-loop
+    cast-ra
+    mul-ra
+    loop-holds
+    mul-lies
+    element-copy-out-lies
+    add-lies
+    mul-lies-2
+    element-copy-out-lies-2
+    lies-requires
+    returns
+    add-j
+    loop-less
+    loop-again
+    returns-2)

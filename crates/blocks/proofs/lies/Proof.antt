@@ -1,0 +1,15 @@
+use Rattle.blocks.specs.Blocks.{common}
+use Rattle.blocks.specs.Masks.{lies}
+use borrow.Author.Needs.{needs}
+use Rattle.blocks.proofs.lies.Statement.{statement}
+use Rattle.blocks.proofs.lies.Tie as tie
+use Rattle.blocks.proofs.lies.Reads as reads
+use Rattle.blocks.proofs.lies.Lts as lts
+
+-- src/lib.rt:181:1
+returns : tie.Need-returns
+unfolding lies common
+returns c = search needs
+
+pub lies-spec : {M : Type 1} → statement M
+lies-spec = tie.close (tie.spec returns)

@@ -1,0 +1,40 @@
+use mathlib.Core.Path.{_≡_, refl, sym, _∙_}
+use Prim.Native.Nat.{_-_}
+use native.Mathlib.Omega.{arith}
+use Rattle.blocks.specs.Blocks.{only}
+use Rattle.blocks.proofs.MaskLaws.{mark-none, mark-high, mark-low, shift-one}
+use borrow.Author.Needs.{needs}
+use Rattle.blocks.proofs.mark_set.Statement.{statement}
+use Rattle.blocks.proofs.mark_set.Tie as tie
+use Rattle.blocks.proofs.mark_set.Reads as reads
+use Rattle.blocks.proofs.mark_set.Lts as lts
+
+-- src/lib.rt:35:9
+returns : tie.Need-returns
+returns c = sym (mark-none _ (search needs))
+
+-- src/lib.rt:38:9
+returns-2 : tie.Need-returns-2
+returns-2 c = sym (mark-high _ (c .before .if1 .left) (search needs))
+
+-- src/lib.rt:40:11
+sub-result : tie.Need-sub-result
+sub-result c = search needs
+
+-- src/lib.rt:40:11
+cast-result : tie.Need-cast-result
+cast-result c = search needs
+
+-- src/lib.rt:40:5
+shl-result : tie.Need-shl-result
+shl-result c = search needs
+
+-- src/lib.rt:30:1
+returns-3 : tie.Need-returns-3
+unfolding only
+returns-3 c =
+    let m = c .before .before .args .mark .0 in
+    shift-one (m - 1) 32 (search needs) ∙ sym (mark-low _ (c .before .if1 .left) (search needs))
+
+pub mark-set-spec : {M : Type 1} → statement M
+mark-set-spec = tie.close (tie.spec returns returns-2 sub-result cast-result shl-result returns-3)

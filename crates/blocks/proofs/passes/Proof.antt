@@ -1,0 +1,31 @@
+use borrow.Author.Tests.{eq-eqb, ne-eqb}
+use Rattle.blocks.specs.Blocks.{common, isEmpty}
+use Rattle.blocks.specs.Masks.{lies, passes}
+use borrow.Author.Needs.{needs}
+use Rattle.blocks.proofs.passes.Statement.{statement}
+use Rattle.blocks.proofs.passes.Tie as tie
+use Rattle.blocks.proofs.passes.Reads as reads
+use Rattle.blocks.proofs.passes.Lts as lts
+
+-- src/lib.rt:143:9
+returns : tie.Need-returns
+unfolding passes lies common isEmpty
+returns c = rw (ne-eqb _ _ (c .if1 .taken))
+
+-- src/lib.rt:146:9
+returns-2 : tie.Need-returns-2
+unfolding passes lies common isEmpty
+returns-2 c = rw (eq-eqb _ _ (c .before .if1 .left), ne-eqb _ _ (c .if2 .taken))
+
+-- src/lib.rt:149:9
+returns-3 : tie.Need-returns-3
+unfolding passes lies common isEmpty
+returns-3 c = rw (eq-eqb _ _ (c .before .before .if1 .left), eq-eqb _ _ (c .before .if2 .left), ne-eqb _ _ (c .if3 .taken))
+
+-- src/lib.rt:139:1
+returns-4 : tie.Need-returns-4
+unfolding passes lies common isEmpty
+returns-4 c = rw (eq-eqb _ _ (c .before .before .if1 .left), eq-eqb _ _ (c .before .if2 .left), eq-eqb _ _ (c .if3 .left))
+
+pub passes-spec : {M : Type 1} → statement M
+passes-spec = tie.close (tie.spec returns returns-2 returns-3 returns-4)

@@ -1,0 +1,86 @@
+-- Needs, landings and goals as sets of positions, and the tests of 01 on such sets.
+use mathlib.Core.Bool.{Bool, true, false, _&&_, not, cond}
+use mathlib.Core.List.{List}
+use mathlib.Core.Option.{Option, none, some}
+use mathlib.Core.Path.{_≡_}
+use Prim.Native.Nat.{ℕ, zero, suc, _+_, _-_, _*_, _<_}
+use lib.Dec.{eqb, ltb}
+use lib.ListN.{getD}
+use Rattle.task.specs.declared.Column.{Column}
+use Rattle.task.specs.declared.Position.{Position}
+use Rattle.task.specs.declared.Step.{Step}
+use Rattle.task.specs.declared.Mark.{Mark}
+use Rattle.task.specs.declared.Model.{Model}
+use Rattle.task.specs.Loops.{all, tab}
+use Rattle.task.specs.Sizes.{limits}
+use Rattle.task.specs.Task.{Task, position, columnCount, stepCount, needAt, effectAt, goalAt}
+use Rattle.task.specs.Tables.{mark}
+use Rattle.blocks.specs.Blocks.{PositionSet, only, common, without, isEmpty}
+use Rattle.blocks.specs.Flat.{past, rowOf}
+
+-- a need or a goal as a set: its position, nothing where there is none
+unfoldable pub wants : Option Position → PositionSet
+wants none = 0
+wants (some p) = only p
+
+-- where a step lands: the effect, or else the need; nothing where it keeps the column
+unfoldable pub landing : Option Position → Option Position → PositionSet
+landing n none = wants n
+landing n (some e) = only e
+
+-- every position of w lies in a
+unfoldable pub lies : PositionSet → PositionSet → Bool
+lies w a = eqb (common a w) w
+
+-- one column, by its sets: the need lies in a, the landing in b, and where the step keeps the column the two meet
+unfoldable pub passes : PositionSet → PositionSet → PositionSet → PositionSet → Bool
+passes need land a b = lies need a && lies land b && not (isEmpty land && isEmpty (common a b))
+
+-- a set that may be cut off: a non-empty proper part of the old one
+unfoldable pub parts : PositionSet → PositionSet → Bool
+parts wanted old = not (isEmpty wanted) && isEmpty (without wanted old) && not (isEmpty (without old wanted))
+
+-- ---- the tables of a model
+
+-- the position of a mark as a set; a mark above 32 names no position
+unfoldable pub markSet : Mark → PositionSet
+markSet m = cond (eqb (m .0) 0) 0 (cond (ltb 32 (m .0)) 0 (only (position (m .0 - 1))))
+
+unfoldable pub landSet : Mark → Mark → PositionSet
+landSet n e = cond (eqb (e .0) 0) (markSet n) (markSet e)
+
+module _ (m : Model) where
+  unfoldable pub needSet : ℕ → PositionSet
+  needSet i = markSet (getD (m .need) i (mark 0))
+
+  unfoldable pub landsSet : ℕ → PositionSet
+  landsSet i = landSet (getD (m .need) i (mark 0)) (getD (m .effect) i (mark 0))
+
+  unfoldable pub goalSet : ℕ → PositionSet
+  goalSet j = markSet (getD (m .goal) j (mark 0))
+
+  unfoldable pub needSets : List PositionSet
+  needSets = tab (limits .steps * limits .columns) needSet
+
+  unfoldable pub landSets : List PositionSet
+  landSets = tab (limits .steps * limits .columns) landsSet
+
+  unfoldable pub goalSets : List PositionSet
+  goalSets = tab (limits .columns) goalSet
+
+-- the tables say what the task says
+pub record Told (t : Task) (needs lands goals : List PositionSet) : Type 0 where
+  pub need : (s : Step) (j : Column) → s .0 < stepCount t → j .0 < columnCount t → past needs (rowOf (s .0)) (j .0) ≡ wants (needAt t s j)
+  pub land : (s : Step) (j : Column) → s .0 < stepCount t → j .0 < columnCount t → past lands (rowOf (s .0)) (j .0) ≡ landing (needAt t s j) (effectAt t s j)
+  pub goal : (j : Column) → j .0 < columnCount t → getD goals (j .0) 0 ≡ wants (goalAt t j)
+
+-- ---- the tests on the tables
+
+-- step s leads from block a to block b
+unfoldable pub leadsBy : ℕ → List ℕ → List ℕ → List ℕ → ℕ → ℕ → ℕ → Bool
+leadsBy columns needs lands sets s a b =
+    all columns (λ j. passes (past needs (rowOf s) j) (past lands (rowOf s) j) (past sets (rowOf a) j) (past sets (rowOf b) j))
+
+-- block a is a goal block
+unfoldable pub goalBy : ℕ → List ℕ → List ℕ → ℕ → Bool
+goalBy columns goals sets a = all columns (λ j. lies (getD goals j 0) (past sets (rowOf a) j))
