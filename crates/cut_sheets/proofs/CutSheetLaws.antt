@@ -23,7 +23,7 @@ use Rattle.sheets.proofs.SheetLaws.{sheet-fine}
 use Rattle.sheets.proofs.HoldLaws.{Reads, holds-reads, sheet-bits, whole-bytes}
 use Rattle.sheets.proofs.RoundLaws.{Same, same-fields, reads-same, own-holds, own-fine, exact-length, same-field}
 use Rattle.cut_sheets.specs.CutPart.{CutFields, cutsNamed, cutEntries, countOf, cutOn, ofCutPart, cutPartWith, cutChecks, judgeCuts}
-use Rattle.cut_sheets.specs.CutSheet.{taskOn, tailOf, atFront, cutSheetChecks, cutsOf, cutValues, cutList, cutIn, ofCuts, cutSheetOf}
+use Rattle.cut_sheets.specs.CutSheet.{taskOn, tailOf, atFront, cutSheetChecks, cutsOf, cutValues, cutList, cutLent, ofCuts, cutSheetOf}
 use Rattle.cut_sheets.proofs.CutPartLaws as part
 use Rattle.cut_sheets.proofs.CutPartLaws.{SameCuts, PartFine}
 use Rattle.cut_sheets.proofs.CutRoundLaws as round
@@ -149,7 +149,7 @@ module _ (model : List ℕ) (count : ℕ) (cuts : List ℕ) (v : Accepted (taskO
   tail = tail-is model ok S front ∙ drop-at model P (length model) refl
 
   wide : (i : ℕ) → i < ofCuts count cuts .count .value → ofCuts count cuts .cut i .wanted .value < 2 ^ 32
-  unfolding ofCuts cutIn
+  unfolding ofCuts cutLent
   wide i h = sets i h
 
   -- the sheet is accepted
@@ -158,7 +158,7 @@ module _ (model : List ℕ) (count : ℕ) (cuts : List ℕ) (v : Accepted (taskO
   written-accepted = front-refusal model S ok front ∙ ap (judgeCuts (taskOn model)) tail ∙ round.written-accepted (taskOn model) v (ofCuts count cuts) good wide
 
   -- and has the cuts
-  pub written-cuts : cutsOf S ≡ cutsNamed (cutIn cuts) count
+  pub written-cuts : cutsOf S ≡ cutsNamed (cutLent cuts) count
   unfolding cutsOf cutEntries ofCutPart cutPartWith ofCuts
   written-cuts = ap (λ (l : List ℕ). cutsNamed (cutOn l) (countOf l)) tail ∙ round.written-cuts (taskOn model) v (ofCuts count cuts) good wide
 
@@ -178,7 +178,7 @@ module _ (model s : List ℕ) (ok : refusal (cutSheetChecks model s) ≡ 0) wher
   there k h = lt-ltb k (length (cutList s)) (omega (arith, each-length (cutValues (cutOn T)) 3 (values-length (cutOn T)) K))
 
   same : SameCuts (ofCuts K (cutList s)) (ofCutPart T) K
-  unfolding ofCuts cutIn cutList ofCutPart cutPartWith
+  unfolding ofCuts cutLent cutList ofCutPart cutPartWith
   same =
       record {
         form = same-field (given 2) (onSheet T 0 4) refl (fine .form .0) (sym (fine .form .1));

@@ -52,11 +52,11 @@ rebuildChecks model s cuts = cutSheetChecks model s ++ (tooFew (countOf (tailOf 
 -- ---- writing a cut sheet
 
 -- the fields of a lent list of cuts
-unfoldable pub cutIn : List ℕ → ℕ → CutFields
-cutIn cuts i = record { block = inTable cuts (i * 3); column = inTable cuts (i * 3 + 1); wanted = inTable cuts (i * 3 + 2) }
+unfoldable pub cutLent : List ℕ → ℕ → CutFields
+cutLent cuts i = record { block = inTable cuts (i * 3); column = inTable cuts (i * 3 + 1); wanted = inTable cuts (i * 3 + 2) }
 
 unfoldable pub ofCuts : ℕ → List ℕ → CutSource
-ofCuts count cuts = record { form = given 2; count = given count; cut = cutIn cuts; fill = given 0 }
+ofCuts count cuts = record { form = given 2; count = given count; cut = cutLent cuts; fill = given 0 }
 
 -- the bytes of the cut sheet
 unfoldable pub cutSheetOf : List ℕ → ℕ → List ℕ → List ℕ

@@ -1,2 +1,3 @@
 pub mod CutPart
 pub mod CutSheet
+pub mod Judged

@@ -1,1 +1,94 @@
-// The cut sheet: a whole model sheet, and from the next byte the cut part.
+// The cut sheet: a whole model sheet, and from the next byte the cut part. It is judged in one pass, in sheet order; the cuts are made in a
+// scratch array as they are judged, since each is judged by the blocks that those before it made.
+ghost use mathlib.Core.Path.{_≡_};
+ghost use Prim.Native.Nat.{_+_, _*_, _≤_, _<_};
+ghost use lib.ListN.{length};
+ghost use Rattle.task.specs.Sizes.{limits};
+ghost use Rattle.task.specs.Task.{Task, columnCount};
+ghost use Rattle.fields.specs.Judging.{judged};
+ghost use Rattle.cut_sheets.specs.CutPart.{cutNamed, cutPart, cutOn};
+ghost use Rattle.cut_sheets.specs.Judged.{Made, CutJudged, CutsJudged, PartJudged};
+use blocks::Cut;
+use blocks::cut_ok;
+use blocks::make_cut;
+use fields::field::field;
+use fields::field::judge_field;
+use task::Block;
+use task::Column;
+use task::Model;
+
+// Cut i of a cut part.
+fn read_cut(s: &[u8], i: usize) -> Cut
+    requires { ⌜ i < 255 ⌝ }
+    ensures { λ r. ⌜ r ≡ cutNamed (cutOn (now (s .entry)) i) ⌝ }
+{
+    let at = 12 + i * 44;
+    let block = field(s, at, 8);
+    let column = field(s, at + 8, 4);
+    let wanted = field(s, at + 8 + 4, 32);
+    Cut {
+        block: Block(block as u16),
+        column: Column(column as u8),
+        wanted: wanted,
+    }
+}
+
+// Cut i: 1 where its three fields are not there, 9 where the blocks so far do not take it, else 0.
+fn judge_cut(s: &[u8], i: usize, columns: usize, sets: &[u32; Model::BLOCKS * Model::COLUMNS]) -> u8
+    requires { ⌜ (i < 255) × (columns ≤ limits .columns) ⌝ }
+    ensures { λ r. ⌜ CutJudged (now (s .entry)) columns i r × ((t : Task) → columnCount t ≡ columns → Made t (now (s .entry)) columns i (now (sets .entry)) → r ≡ judged (cutPart t (cutOn (now (s .entry))) i)) ⌝ }
+{
+    if s.len() < (12 + i * 44 + 44 + 7) / 8 {
+        return 1;
+    }
+    if !cut_ok(columns, i + 1, read_cut(s, i), sets) {
+        return 9;
+    }
+    0
+}
+
+// The cuts of a part, each judged by the blocks that those before it made, and made in turn. At first the array holds block 0.
+fn judge_cuts(s: &[u8], count: usize, columns: usize, sets: &mut [u32; Model::BLOCKS * Model::COLUMNS]) -> u8
+    requires { ⌜ (count < limits .blocks) × (columns ≤ limits .columns) × (length (now sets) ≡ limits .blocks * limits .columns) ⌝ }
+    ensures { λ r. ⌜ ((t : Task) → columnCount t ≡ columns → Made t (now (s .entry)) columns 0 (now (sets .entry)) → CutsJudged t (now (s .entry)) columns count r (now (sets .exit))) ⌝ }
+{
+    let mut i: usize = 0;
+    while i < count {
+        let r = judge_cut(s, i, columns, sets);
+        if r != 0 {
+            return r;
+        }
+        make_cut(columns, i + 1, read_cut(s, i), sets);
+        i += 1;
+    }
+    0
+}
+
+// The refusal of a cut part; 0 for none, and the array then holds the blocks of its cuts.
+pub fn judge_cut_part(s: &[u8], columns: usize, sets: &mut [u32; Model::BLOCKS * Model::COLUMNS]) -> u8
+    requires { ⌜ (columns ≤ limits .columns) × (length (now sets) ≡ limits .blocks * limits .columns) ⌝ }
+    ensures { λ r. ⌜ ((t : Task) → columnCount t ≡ columns → Made t (now (s .entry)) columns 0 (now (sets .entry)) → PartJudged t (now (s .entry)) columns r (now (sets .exit))) ⌝ }
+{
+    let a = judge_field(s, 0, 4, 2, 2, 2);
+    if a != 0 {
+        return a;
+    }
+    let b = judge_field(s, 4, 8, 0, 255, 9);
+    if b != 0 {
+        return b;
+    }
+    let count = field(s, 4, 8) as usize;
+    let c = judge_cuts(s, count, columns, sets);
+    if c != 0 {
+        return c;
+    }
+    let bits = 12 + count * 44;
+    let d = judge_field(s, bits, (8 - bits % 8) % 8, 0, 0, 6);
+    if d != 0 {
+        return d;
+    }
+    if (bits + 7) / 8 < s.len() {
+        return 6;
+    }
+    0
+}

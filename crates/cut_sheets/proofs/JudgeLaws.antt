@@ -1,0 +1,196 @@
+-- Laws for the code that judges a cut part: what each early end and each step of the loop says.
+use Prim.Native.Nat.{ℕ, suc, _+_, _*_, _≤_, _<_}
+use native.Mathlib.Omega.{arith}
+use native.Mathlib.Numerals.{add-one}
+use mathlib.Core.Path.{_≡_, refl, sym, ap, ap₂, _∙_, subst}
+use native.Mathlib.Decide.{decLt}
+use mathlib.Core.Bool.{Bool, true, false, not}
+use mathlib.Core.List.{List, [], _∷_, _++_}
+use lib.Dec.{ltb}
+use lib.ListN.{length, replicate, length-replicate}
+use Rattle.task.specs.Task.{Task, columnCount, column, block, noColumn}
+use Rattle.task.proofs.LoopLaws.{true-or-false}
+use Rattle.fields.specs.Bits.{fieldAt}
+use Rattle.fields.specs.Judging.{Entry, onSheet, entry, free, outside, check, refusal, judged, each}
+use Rattle.fields.proofs.FieldLaws.{field-lt}
+use Rattle.sheets.specs.ModelSheet.{fillBits, fillPart}
+use Rattle.fields.proofs.JudgingLaws.{stopped, went, cut, spoilt, good, sheet-here, sheet-cut, pass, hit, end, last-stopped, last-went}
+use Rattle.blocks.specs.declared.Cut.{Cut}
+use Rattle.blocks.specs.Blocks.{Blocks, cutOk, cutBlock, blocksOf}
+use Rattle.blocks.specs.Flat.{blocksIn, cutIn}
+use Rattle.blocks.proofs.PartLaws.{fits}
+use Rattle.blocks.proofs.CutLaws.{blocks-more}
+use Rattle.blocks.proofs.FlatLaws.{blocks-length, cut-in-length, cut-made}
+use Rattle.cut_sheets.specs.CutPart.{cutNamed, cutsNamed, cutHeader, cutPart, cutOn, cutBits, cutBytes, cutFields, cutEntries, countOf, cutPartWith, ofCutPart, cutFollows, cutChecks, judgeCuts}
+use Rattle.cut_sheets.specs.Judged.{Made, CutJudged, CutsJudged, PartJudged}
+use Rattle.cut_sheets.proofs.CutPartLaws.{cuts-more}
+
+-- the cut that three values name
+pub named : (s : List ℕ) (i : ℕ) {a b w : ℕ} → a ≡ fieldAt s (12 + i * 44) 8 → b ≡ fieldAt s (12 + i * 44 + 8) 4 → w ≡ fieldAt s (12 + i * 44 + 8 + 4) 32
+    → _≡_ {A = Cut} (record { block = block a; column = column b; wanted = w }) (cutNamed (cutOn s i))
+unfolding cutNamed cutOn
+named s i p q r = λ k. record { block = block (p k); column = column (q k); wanted = r k }
+
+-- ---- one cut
+module _ (t : Task) (s : List ℕ) (i : ℕ) where
+  abbrev at : ℕ
+  at = 12 + i * 44
+
+  abbrev B : Entry
+  B = free 8 (cutOn s i .block)
+
+  abbrev C : Entry
+  C = free 4 (cutOn s i .column)
+
+  abbrev W : Entry
+  W = entry 32 (cutOn s i .wanted) 9 (not (cutOk t (blocksOf t (cutsNamed (cutOn s) i)) (cutNamed (cutOn s i))))
+
+  -- what the last field gets, where the two before it are there
+  past-column : {x : ℕ} → at + 8 + 4 ≤ 8 * length s → x ≡ judged (W ∷ []) → x ≡ judged (cutPart t (cutOn s) i)
+  unfolding cutPart cutOn
+  past-column h e =
+      went (B ∷ []) (C ∷ W ∷ []) (good 8 (onSheet s at 8) 1 false (sheet-here s at 8 (omega arith)) refl) refl
+      (went (C ∷ []) (W ∷ []) (good 4 (onSheet s (at + 8) 4) 1 false (sheet-here s (at + 8) 4 h) refl) refl e)
+
+  -- a field is not there
+  pub cut-short : 8 * length s < at + 44 → 1 ≡ judged (cutPart t (cutOn s) i)
+  unfolding cutPart cutOn
+  cut-short h = first (decLt (8 * length s) (at + 8)) (decLt (8 * length s) (at + 8 + 4))
+    where
+      first : Dec (8 * length s < at + 8) → Dec (8 * length s < at + 8 + 4) → 1 ≡ judged (cutPart t (cutOn s) i)
+      first (yes p) d = stopped (B ∷ []) (C ∷ W ∷ []) (cut 8 (onSheet s at 8) 1 false (sheet-cut s at 8 p)) (λ z. omega arith)
+      first (no p) (yes q) =
+          went (B ∷ []) (C ∷ W ∷ []) (good 8 (onSheet s at 8) 1 false (sheet-here s at 8 (omega arith)) refl) refl
+          (stopped (C ∷ []) (W ∷ []) (cut 4 (onSheet s (at + 8) 4) 1 false (sheet-cut s (at + 8) 4 q)) (λ z. omega arith))
+      first (no p) (no q) = past-column (omega arith) (cut 32 (onSheet s (at + 8 + 4) 32) 9 _ (sheet-cut s (at + 8 + 4) 32 (omega arith)))
+
+  module _ (h : at + 44 ≤ 8 * length s) where
+    wanted-here : onSheet s (at + 8 + 4) 32 .here ≡ true
+    wanted-here = sheet-here s (at + 8 + 4) 32 (omega arith)
+
+    -- all are there, and the blocks so far do not take the cut, or do
+    pub cut-bad : cutOk t (blocksOf t (cutsNamed (cutOn s) i)) (cutNamed (cutOn s i)) ≡ false → 9 ≡ judged (cutPart t (cutOn s) i)
+    unfolding cutOn
+    cut-bad q = past-column (omega arith) (spoilt 32 (onSheet s (at + 8 + 4) 32) 9 _ wanted-here (ap not q))
+
+    pub cut-good : cutOk t (blocksOf t (cutsNamed (cutOn s) i)) (cutNamed (cutOn s i)) ≡ true → 0 ≡ judged (cutPart t (cutOn s) i)
+    unfolding cutOn
+    cut-good q = past-column (omega arith) (good 32 (onSheet s (at + 8 + 4) 32) 9 _ wanted-here (ap not q))
+
+-- ---- what the test of a cut says whatever the task
+anyTask : ℕ → Task
+anyTask columns = record { columns = replicate columns noColumn; steps = [] }
+
+any-columns : (columns : ℕ) → columnCount (anyTask columns) ≡ columns
+unfolding columnCount anyTask
+any-columns columns = length-replicate columns noColumn
+
+pub taken : (columns count : ℕ) (sets : List ℕ) (c : Cut) → ((t : Task) → columnCount t ≡ columns → true ≡ cutOk t (blocksIn columns count sets) c) → (c .block .0 < count) × (c .column .0 < columns)
+taken columns count sets c h =
+    let t = anyTask columns in
+    let f = fits t (blocksIn columns count sets) c (sym (h t (any-columns columns))) in
+    (omega (arith, f .made, blocks-length columns count sets), omega (arith, f .there, any-columns columns))
+
+-- the test of the cut that was read, by the array of the blocks so far
+pub told : (t : Task) (s sets : List ℕ) (columns i : ℕ) {c : Cut} {r : Bool} → c ≡ cutNamed (cutOn s i) → ((t : Task) → columnCount t ≡ columns → r ≡ cutOk t (blocksIn columns (i + 1) sets) c)
+    → columnCount t ≡ columns → Made t s columns i sets → cutOk t (blocksOf t (cutsNamed (cutOn s) i)) (cutNamed (cutOn s i)) ≡ r
+told t s sets columns i p h e m = sym (h t e ∙ ap₂ (λ (bs : Blocks) (c : Cut). cutOk t bs c) m p)
+
+pub judged-good : (s sets : List ℕ) (columns i : ℕ) {c : Cut} {r : Bool} → r ≡ true → c ≡ cutNamed (cutOn s i) → ((t : Task) → columnCount t ≡ columns → r ≡ cutOk t (blocksIn columns (i + 1) sets) c)
+    → CutJudged s columns i 0
+judged-good s sets columns i {c} q p h =
+    let k = taken columns (i + 1) sets c (λ t e. sym q ∙ h t e) in
+    record { block = λ z. rw p at (k .0); column = λ z. rw p at (k .1) }
+
+-- ---- the loop
+
+-- a cut that was accepted is made: the array then holds the blocks of one cut more
+module _ (s sets : List ℕ) (columns i : ℕ) (wide : columns ≤ 16) (room : i < 255) (long : length sets ≡ 4096) {c : Cut} {r : ℕ} (p : c ≡ cutNamed (cutOn s i)) (z : r ≡ 0) (j : CutJudged s columns i r) where
+  pub there : (c .block .0 < i + 1) × (c .column .0 < columns)
+  there = rw p (j .block z, j .column z)
+
+  pub more-long : length (cutIn columns (i + 1) c sets) ≡ 4096
+  more-long = cut-in-length columns (i + 1) c sets wide (omega arith) (there .0) (there .1) long
+
+  pub made-more : (t : Task) → Made t s columns i sets → Made t s columns (i + 1) (cutIn columns (i + 1) c sets)
+  made-more t m =
+      cut-made columns (i + 1) c sets wide (omega arith) (there .0) (there .1) long ∙ ap₂ cutBlock m p
+      ∙ sym (blocks-more t (cutsNamed (cutOn s) i) (cutNamed (cutOn s i))) ∙ ap (blocksOf t) (sym (cuts-more (cutOn s) i) ∙ ap (cutsNamed (cutOn s)) (sym (add-one i)))
+
+-- what the loop holds
+pub record Going (t : Task) (s : List ℕ) (columns i : ℕ) (sets : List ℕ) : Type 0 where
+  pub passed : judged (each i (cutPart t (cutOn s))) ≡ 0
+  pub made : Made t s columns i sets
+
+pub going-on : (t : Task) (s sets : List ℕ) (columns i : ℕ) {c : Cut} {r : ℕ} {next : List ℕ} → columns ≤ 16 → i < 255 → length sets ≡ 4096 → c ≡ cutNamed (cutOn s i) → r ≡ 0 → CutJudged s columns i r
+    → r ≡ judged (cutPart t (cutOn s) i) → next ≡ cutIn columns (i + 1) c sets → Going t s columns i sets → Going t s columns (i + 1) next
+going-on t s sets columns i wide room long p z j e n g =
+    record { passed = pass i (cutPart t (cutOn s)) (g .passed) e z; made = rw n (made-more s sets columns i wide room long p z j t (g .made)) }
+
+pub going-end : (t : Task) (s sets : List ℕ) (columns i count : ℕ) → i ≤ count → count ≤ i → Going t s columns i sets → CutsJudged t s columns count 0 sets
+going-end t s sets columns i count h g q =
+    let e : i ≡ count = omega arith in
+    record { refusal = end i count (cutPart t (cutOn s)) h g (q .passed); made = λ z. subst (λ (k : ℕ). Made t s columns k sets) e (q .made) }
+
+pub going-stop : (t : Task) (s sets exit : List ℕ) (columns i count : ℕ) {r : ℕ} → i < count → Going t s columns i sets → r ≡ judged (cutPart t (cutOn s) i) → (r ≡ 0 → ⊥)
+    → CutsJudged t s columns count r exit
+going-stop t s sets exit columns i count h q e z = record { refusal = hit i count (cutPart t (cutOn s)) h (q .passed) e z; made = λ n. absurd (z n) }
+
+-- ---- the whole part, by what each of its parts was judged
+module _ (t : Task) (s : List ℕ) where
+  abbrev Form : Entry
+  Form = entry 4 (onSheet s 0 4) 2 (outside 2 2 (fieldAt s 0 4))
+
+  abbrev Count : Entry
+  Count = entry 8 (onSheet s 4 8) 9 (outside 0 255 (fieldAt s 4 8))
+
+  abbrev Cuts : ℕ → List Entry
+  Cuts n = each n (cutPart t (cutOn s))
+
+  abbrev Fill : ℕ → List Entry
+  Fill n = fillPart (cutBits n) (onSheet s (cutBits n) (fillBits (cutBits n)))
+
+  abbrev Rest : List Entry
+  Rest = Cuts (countOf s) ++ Fill (countOf s)
+
+  refused : (exit : List ℕ) (columns : ℕ) {r : ℕ} → (r ≡ 0 → ⊥) → r ≡ judged (Form ∷ Count ∷ Rest) → PartJudged t s columns r exit
+  unfolding judgeCuts cutChecks cutEntries cutFields cutHeader ofCutPart cutPartWith
+  refused exit columns z e = record { refusal = last-stopped (Form ∷ Count ∷ Rest) (cutFollows s ∷ []) e z; made = λ n. absurd (z n) }
+
+  pub form-refused : (exit : List ℕ) (columns : ℕ) {a : ℕ} → a ≡ judged (Form ∷ []) → (a ≡ 0 → ⊥) → PartJudged t s columns a exit
+  form-refused exit columns ea za = refused exit columns za (stopped (Form ∷ []) (Count ∷ Rest) ea za)
+
+  module _ {a : ℕ} (ea : a ≡ judged (Form ∷ [])) (za : a ≡ 0) where
+    pub count-refused : (exit : List ℕ) (columns : ℕ) {b : ℕ} → b ≡ judged (Count ∷ []) → (b ≡ 0 → ⊥) → PartJudged t s columns b exit
+    count-refused exit columns eb zb = refused exit columns zb (went (Form ∷ []) (Count ∷ Rest) ea za (stopped (Count ∷ []) Rest eb zb))
+
+    module _ {b n : ℕ} (eb : b ≡ judged (Count ∷ [])) (zb : b ≡ 0) (en : n ≡ countOf s) where
+      rest-refused : (exit : List ℕ) (columns : ℕ) {r : ℕ} → (r ≡ 0 → ⊥) → r ≡ judged Rest → PartJudged t s columns r exit
+      rest-refused exit columns z e = refused exit columns z (went (Form ∷ []) (Count ∷ Rest) ea za (went (Count ∷ []) Rest eb zb e))
+
+      -- a refusal of the cuts, and of the fill
+      pub cuts-refused : (exit : List ℕ) (columns : ℕ) {c : ℕ} → CutsJudged t s columns n c exit → (c ≡ 0 → ⊥) → PartJudged t s columns c exit
+      cuts-refused exit columns j z =
+          rest-refused exit columns z (stopped (Cuts (countOf s)) (Fill (countOf s)) (j .refusal ∙ ap (λ (k : ℕ). judged (Cuts k)) en) z)
+
+      module _ (exit : List ℕ) (columns : ℕ) {c : ℕ} (j : CutsJudged t s columns n c exit) (zc : c ≡ 0) where
+        past-cuts : {d : ℕ} → d ≡ judged (Fill n) → d ≡ judged Rest
+        past-cuts e = went (Cuts (countOf s)) (Fill (countOf s)) (j .refusal ∙ ap (λ (k : ℕ). judged (Cuts k)) en) zc (e ∙ ap (λ (k : ℕ). judged (Fill k)) en)
+
+        pub fill-refused : {d : ℕ} → d ≡ judged (Fill n) → (d ≡ 0 → ⊥) → PartJudged t s columns d exit
+        fill-refused e z = rest-refused exit columns z (past-cuts e)
+
+        -- bytes follow, or none do
+        pub part-end : {d x : ℕ} → d ≡ judged (Fill n) → d ≡ 0 → x ≡ refusal (check 6 (ltb (cutBytes n) (length s)) ∷ []) → PartJudged t s columns x exit
+        unfolding judgeCuts cutChecks cutEntries cutFields cutHeader ofCutPart cutPartWith
+        part-end e z f =
+            record {
+              refusal =
+                  last-went (Form ∷ Count ∷ Rest) (cutFollows s ∷ []) (went (Form ∷ []) (Count ∷ Rest) ea za (went (Count ∷ []) Rest eb zb (past-cuts e))) z
+                  (f ∙ ap (λ (k : ℕ). refusal (check 6 (ltb (cutBytes k) (length s)) ∷ [])) en);
+              made = λ q. subst (λ (k : ℕ). Made t s columns k exit) en (j .made zc);
+            }
+
+-- the count of a part whose header was accepted
+pub count-below : (s : List ℕ) {n : ℕ} → n ≡ countOf s → n < 256
+count-below s e = omega (arith, field-lt s 4 8)

@@ -1,0 +1,93 @@
+use Prim.Native.Nat.{_-_, _≤_, _<_}
+use native.Mathlib.Omega.{arith}
+use mathlib.Core.Path.{_≡_, refl, sym, ap, _∙_}
+use lib.ListN.{length}
+use Rattle.task.specs.Task.{Task, columnCount}
+use Rattle.cut_sheets.specs.CutPart.{cutPart, cutOn}
+use Rattle.cut_sheets.specs.Judged.{Made}
+use Rattle.fields.proofs.JudgingLaws.{none}
+use Rattle.cut_sheets.proofs.JudgeLaws.{Going, going-on, going-end, going-stop, there, more-long}
+use borrow.Author.Needs.{needs}
+use Rattle.cut_sheets.proofs.judge_cuts.Statement.{statement}
+use Rattle.cut_sheets.proofs.judge_cuts.Tie as tie
+use Rattle.cut_sheets.proofs.judge_cuts.Reads as reads
+use Rattle.cut_sheets.proofs.judge_cuts.Lts as lts
+use Rattle.blocks.proofs.make_cut.Reads as make-cut-reads
+use Rattle.cut_sheets.proofs.judge_cut.Reads as judge-cut-reads
+use Rattle.cut_sheets.proofs.read_cut.Reads as read-cut-reads
+
+abbrev Inv-loop : tie.InvT-loop
+Inv-loop s count columns sets₀ i₀ sets i =
+    ((i ≤ count) × (length sets ≡ 4096)) × ((t : Task) → columnCount t ≡ columns → Made t s columns 0 sets₀ → Going t s columns i sets)
+
+abbrev μ-loop : tie.MeasureT-loop
+μ-loop s count columns sets₀ i₀ sets i = count - i
+
+-- src/lib.rt:56:5
+loop-holds : tie.Need-loop-holds Inv-loop μ-loop
+loop-holds c = (search needs, λ t e m. record { passed = none (cutPart t (cutOn (c .before .args .s .now))); made = m })
+
+-- src/lib.rt:57:13
+judge-cut-requires : tie.Need-judge-cut-requires Inv-loop μ-loop
+judge-cut-requires c κs = search needs
+
+-- src/lib.rt:59:13
+returns : tie.Need-returns Inv-loop μ-loop
+returns c = let g = c .before .before .before .before .before .before .args in
+    λ t e m. going-stop t (g .s .now) (c .before .before .before .before .loop .sets) (c .before .before .before .before .loop .sets) (g .columns) (c .before .before .before .before .loop .i) (g .count) (c .before .before .before .loop-test .taken) (c .before .before .before .before .loop .inv .1 t e m)
+        (c .before .judge-cut .ensures .1 t e (c .before .before .before .before .loop .inv .1 t e m .made)) (c .if1 .taken)
+
+-- src/lib.rt:61:27
+add-make-cut : tie.Need-add-make-cut Inv-loop μ-loop
+add-make-cut c = search needs
+
+-- src/lib.rt:61:34
+read-cut-requires : tie.Need-read-cut-requires Inv-loop μ-loop
+read-cut-requires c κs = search needs
+
+-- src/lib.rt:61:9
+make-cut-requires : tie.Need-make-cut-requires Inv-loop μ-loop
+make-cut-requires c κs = let g = c .before .before .before .before .before .before .before .before .args in
+    let h = there (g .s .now) (c .before .before .before .before .before .before .loop .sets) (g .columns) (c .before .before .before .before .before .before .loop .i) (c .before .before .before .before .before .before .before .before .pre .1) (omega (arith, c .before .before .before .before .before .before .before .before .pre .0)) (c .before .before .before .before .before .before .loop .inv .0 .1) (c .before .read-cut .ensures) (c .before .before .if1 .left) (c .before .before .before .judge-cut .ensures .0) in
+    (c .before .before .before .before .before .before .before .before .pre .1, omega (arith, c .before .before .before .before .before .before .before .before .pre .0), h .0, h .1, c .before .before .before .before .before .before .loop .inv .0 .1)
+
+-- src/lib.rt:62:9
+add-i : tie.Need-add-i Inv-loop μ-loop
+add-i c = search needs
+
+-- src/lib.rt:56:5
+loop-less : tie.Need-loop-less Inv-loop μ-loop
+loop-less c = search needs
+
+-- src/lib.rt:56:5
+loop-again : tie.Need-loop-again Inv-loop μ-loop
+loop-again c = let g = c .before .before .before .before .before .before .before .before .before .args in
+    let l = c .before .before .before .before .before .before .before .loop in
+    let room : l .i < 255 = omega (arith, c .before .before .before .before .before .before .before .before .before .pre .0) in (
+      (search needs, ap length (c .make-cut .ensures) ∙ more-long (g .s .now) (l .sets) (g .columns) (l .i) (c .before .before .before .before .before .before .before .before .before .pre .1) room (l .inv .0 .1) (c .before .before .read-cut .ensures) (c .before .before .before .if1 .left) (c .before .before .before .before .judge-cut .ensures .0)),
+      λ t e m.
+          going-on t (g .s .now) (l .sets) (g .columns) (l .i) (c .before .before .before .before .before .before .before .before .before .pre .1) room (l .inv .0 .1) (c .before .before .read-cut .ensures) (c .before .before .before .if1 .left) (c .before .before .before .before .judge-cut .ensures .0)
+          (c .before .before .before .before .judge-cut .ensures .1 t e (l .inv .1 t e m .made)) (c .make-cut .ensures) (l .inv .1 t e m),
+    )
+
+-- src/lib.rt:51:1
+returns-2 : tie.Need-returns-2 Inv-loop μ-loop
+returns-2 c = let g = c .before .before .before .args in
+    λ t e m. going-end t (g .s .now) (c .before .loop .sets) (g .columns) (c .before .loop .i) (g .count) (omega arith) (omega arith) (c .before .loop .inv .1 t e m)
+
+pub judge-cuts-spec : {M : Type 1} → statement M
+judge-cuts-spec =
+    tie.close
+    (tie.spec
+    Inv-loop
+    μ-loop
+    loop-holds
+    judge-cut-requires
+    returns
+    add-make-cut
+    read-cut-requires
+    make-cut-requires
+    add-i
+    loop-less
+    loop-again
+    returns-2)
