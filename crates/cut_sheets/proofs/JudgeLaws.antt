@@ -3,7 +3,7 @@ use Prim.Native.Nat.{ℕ, suc, _+_, _*_, _≤_, _<_}
 use native.Mathlib.Omega.{arith}
 use native.Mathlib.Numerals.{add-one}
 use mathlib.Core.Path.{_≡_, refl, sym, ap, ap₂, _∙_, subst}
-use native.Mathlib.Decide.{decLt}
+use mathlib.Core.Logic.{⊎-elim}
 use mathlib.Core.Bool.{Bool, true, false, not}
 use mathlib.Core.List.{List, [], _∷_, _++_}
 use lib.Dec.{ltb}
@@ -21,7 +21,7 @@ use Rattle.blocks.specs.Flat.{blocksIn, cutIn}
 use Rattle.blocks.proofs.PartLaws.{fits}
 use Rattle.blocks.proofs.CutLaws.{blocks-more}
 use Rattle.blocks.proofs.FlatLaws.{blocks-length, cut-in-length, cut-made}
-use Rattle.cut_sheets.specs.CutPart.{cutNamed, cutsNamed, cutHeader, cutPart, cutOn, cutBits, cutBytes, cutFields, cutEntries, countOf, cutPartWith, ofCutPart, cutFollows, cutChecks, judgeCuts}
+use Rattle.cut_sheets.specs.CutPart.{CutFields, cutNamed, cutsNamed, cutHeader, cutPart, cutOn, cutBits, cutBytes, cutFields, cutEntries, countOf, cutPartWith, ofCutPart, cutFollows, cutChecks, judgeCuts}
 use Rattle.cut_sheets.specs.Judged.{Made, CutJudged, CutsJudged, PartJudged}
 use Rattle.cut_sheets.proofs.CutPartLaws.{cuts-more}
 
@@ -31,51 +31,52 @@ pub named : (s : List ℕ) (i : ℕ) {a b w : ℕ} → a ≡ fieldAt s (12 + i *
 unfolding cutNamed cutOn
 named s i p q r = λ k. record { block = block (p k); column = column (q k); wanted = r k }
 
--- ---- one cut
-module _ (t : Task) (s : List ℕ) (i : ℕ) where
-  abbrev at : ℕ
-  at = 12 + i * 44
-
+-- ---- one cut, wherever its fields come from
+module _ (t : Task) (c : ℕ → CutFields) (i : ℕ) where
   abbrev B : Entry
-  B = free 8 (cutOn s i .block)
+  B = free 8 (c i .block)
 
   abbrev C : Entry
-  C = free 4 (cutOn s i .column)
+  C = free 4 (c i .column)
 
   abbrev W : Entry
-  W = entry 32 (cutOn s i .wanted) 9 (not (cutOk t (blocksOf t (cutsNamed (cutOn s) i)) (cutNamed (cutOn s i))))
+  W = entry 32 (c i .wanted) 9 (not (cutOk t (blocksOf t (cutsNamed c i)) (cutNamed (c i))))
 
   -- what the last field gets, where the two before it are there
-  past-column : {x : ℕ} → at + 8 + 4 ≤ 8 * length s → x ≡ judged (W ∷ []) → x ≡ judged (cutPart t (cutOn s) i)
-  unfolding cutPart cutOn
-  past-column h e =
-      went (B ∷ []) (C ∷ W ∷ []) (good 8 (onSheet s at 8) 1 false (sheet-here s at 8 (omega arith)) refl) refl
-      (went (C ∷ []) (W ∷ []) (good 4 (onSheet s (at + 8) 4) 1 false (sheet-here s (at + 8) 4 h) refl) refl e)
+  past-column : {x : ℕ} → c i .block .here ≡ true → c i .column .here ≡ true → x ≡ judged (W ∷ []) → x ≡ judged (cutPart t c i)
+  unfolding cutPart
+  past-column hb hc e = went (B ∷ []) (C ∷ W ∷ []) (good 8 (c i .block) 1 false hb refl) refl (went (C ∷ []) (W ∷ []) (good 4 (c i .column) 1 false hc refl) refl e)
 
-  -- a field is not there
-  pub cut-short : 8 * length s < at + 44 → 1 ≡ judged (cutPart t (cutOn s) i)
-  unfolding cutPart cutOn
-  cut-short h = first (decLt (8 * length s) (at + 8)) (decLt (8 * length s) (at + 8 + 4))
-    where
-      first : Dec (8 * length s < at + 8) → Dec (8 * length s < at + 8 + 4) → 1 ≡ judged (cutPart t (cutOn s) i)
-      first (yes p) d = stopped (B ∷ []) (C ∷ W ∷ []) (cut 8 (onSheet s at 8) 1 false (sheet-cut s at 8 p)) (λ z. omega arith)
-      first (no p) (yes q) =
-          went (B ∷ []) (C ∷ W ∷ []) (good 8 (onSheet s at 8) 1 false (sheet-here s at 8 (omega arith)) refl) refl
-          (stopped (C ∷ []) (W ∷ []) (cut 4 (onSheet s (at + 8) 4) 1 false (sheet-cut s (at + 8) 4 q)) (λ z. omega arith))
-      first (no p) (no q) = past-column (omega arith) (cut 32 (onSheet s (at + 8 + 4) 32) 9 _ (sheet-cut s (at + 8 + 4) 32 (omega arith)))
+  -- where the last field is not there, the first that is not gives 1
+  pub cut-short : c i .wanted .here ≡ false → 1 ≡ judged (cutPart t c i)
+  unfolding cutPart
+  cut-short h =
+      ⊎-elim
+      (λ (hb : c i .block .here ≡ true).
+      ⊎-elim (λ (hc : c i .column .here ≡ true). past-column hb hc (cut 32 (c i .wanted) 9 _ h))
+      (λ (hc : c i .column .here ≡ false).
+      went (B ∷ []) (C ∷ W ∷ []) (good 8 (c i .block) 1 false hb refl) refl (stopped (C ∷ []) (W ∷ []) (cut 4 (c i .column) 1 false hc) (λ z. omega arith)))
+      (true-or-false (c i .column .here)))
+      (λ (hb : c i .block .here ≡ false). stopped (B ∷ []) (C ∷ W ∷ []) (cut 8 (c i .block) 1 false hb) (λ z. omega arith))
+      (true-or-false (c i .block .here))
 
-  module _ (h : at + 44 ≤ 8 * length s) where
-    wanted-here : onSheet s (at + 8 + 4) 32 .here ≡ true
-    wanted-here = sheet-here s (at + 8 + 4) 32 (omega arith)
-
+  module _ (hb : c i .block .here ≡ true) (hc : c i .column .here ≡ true) (hw : c i .wanted .here ≡ true) where
     -- all are there, and the blocks so far do not take the cut, or do
-    pub cut-bad : cutOk t (blocksOf t (cutsNamed (cutOn s) i)) (cutNamed (cutOn s i)) ≡ false → 9 ≡ judged (cutPart t (cutOn s) i)
-    unfolding cutOn
-    cut-bad q = past-column (omega arith) (spoilt 32 (onSheet s (at + 8 + 4) 32) 9 _ wanted-here (ap not q))
+    pub cut-bad : cutOk t (blocksOf t (cutsNamed c i)) (cutNamed (c i)) ≡ false → 9 ≡ judged (cutPart t c i)
+    cut-bad q = past-column hb hc (spoilt 32 (c i .wanted) 9 _ hw (ap not q))
 
-    pub cut-good : cutOk t (blocksOf t (cutsNamed (cutOn s) i)) (cutNamed (cutOn s i)) ≡ true → 0 ≡ judged (cutPart t (cutOn s) i)
-    unfolding cutOn
-    cut-good q = past-column (omega arith) (good 32 (onSheet s (at + 8 + 4) 32) 9 _ wanted-here (ap not q))
+    pub cut-good : cutOk t (blocksOf t (cutsNamed c i)) (cutNamed (c i)) ≡ true → 0 ≡ judged (cutPart t c i)
+    cut-good q = past-column hb hc (good 32 (c i .wanted) 9 _ hw (ap not q))
+
+-- the fields of cut i of a part are there
+module _ (s : List ℕ) (i : ℕ) where
+  pub sheet-short : 8 * length s < 12 + i * 44 + 44 → cutOn s i .wanted .here ≡ false
+  unfolding cutOn
+  sheet-short h = sheet-cut s (12 + i * 44 + 8 + 4) 32 (omega arith)
+
+  pub sheet-whole : 12 + i * 44 + 44 ≤ 8 * length s → (cutOn s i .block .here ≡ true) × (cutOn s i .column .here ≡ true) × (cutOn s i .wanted .here ≡ true)
+  unfolding cutOn
+  sheet-whole h = (sheet-here s (12 + i * 44) 8 (omega arith), sheet-here s (12 + i * 44 + 8) 4 (omega arith), sheet-here s (12 + i * 44 + 8 + 4) 32 (omega arith))
 
 -- ---- what the test of a cut says whatever the task
 anyTask : ℕ → Task
@@ -92,49 +93,49 @@ taken columns count sets c h =
     (omega (arith, f .made, blocks-length columns count sets), omega (arith, f .there, any-columns columns))
 
 -- the test of the cut that was read, by the array of the blocks so far
-pub told : (t : Task) (s sets : List ℕ) (columns i : ℕ) {c : Cut} {r : Bool} → c ≡ cutNamed (cutOn s i) → ((t : Task) → columnCount t ≡ columns → r ≡ cutOk t (blocksIn columns (i + 1) sets) c)
-    → columnCount t ≡ columns → Made t s columns i sets → cutOk t (blocksOf t (cutsNamed (cutOn s) i)) (cutNamed (cutOn s i)) ≡ r
-told t s sets columns i p h e m = sym (h t e ∙ ap₂ (λ (bs : Blocks) (c : Cut). cutOk t bs c) m p)
+pub told : (t : Task) (f : ℕ → CutFields) (sets : List ℕ) (columns i : ℕ) {c : Cut} {r : Bool} → c ≡ cutNamed (f i) → ((t : Task) → columnCount t ≡ columns → r ≡ cutOk t (blocksIn columns (i + 1) sets) c)
+    → columnCount t ≡ columns → Made t f columns i sets → cutOk t (blocksOf t (cutsNamed f i)) (cutNamed (f i)) ≡ r
+told t f sets columns i p h e m = sym (h t e ∙ ap₂ (λ (bs : Blocks) (c : Cut). cutOk t bs c) m p)
 
-pub judged-good : (s sets : List ℕ) (columns i : ℕ) {c : Cut} {r : Bool} → r ≡ true → c ≡ cutNamed (cutOn s i) → ((t : Task) → columnCount t ≡ columns → r ≡ cutOk t (blocksIn columns (i + 1) sets) c)
-    → CutJudged s columns i 0
-judged-good s sets columns i {c} q p h =
+pub judged-good : (f : ℕ → CutFields) (sets : List ℕ) (columns i : ℕ) {c : Cut} {r : Bool} → r ≡ true → c ≡ cutNamed (f i) → ((t : Task) → columnCount t ≡ columns → r ≡ cutOk t (blocksIn columns (i + 1) sets) c)
+    → CutJudged f columns i 0
+judged-good f sets columns i {c} q p h =
     let k = taken columns (i + 1) sets c (λ t e. sym q ∙ h t e) in
     record { block = λ z. rw p at (k .0); column = λ z. rw p at (k .1) }
 
 -- ---- the loop
 
 -- a cut that was accepted is made: the array then holds the blocks of one cut more
-module _ (s sets : List ℕ) (columns i : ℕ) (wide : columns ≤ 16) (room : i < 255) (long : length sets ≡ 4096) {c : Cut} {r : ℕ} (p : c ≡ cutNamed (cutOn s i)) (z : r ≡ 0) (j : CutJudged s columns i r) where
+module _ (f : ℕ → CutFields) (sets : List ℕ) (columns i : ℕ) (wide : columns ≤ 16) (room : i < 255) (long : length sets ≡ 4096) {c : Cut} {r : ℕ} (p : c ≡ cutNamed (f i)) (z : r ≡ 0) (j : CutJudged f columns i r) where
   pub there : (c .block .0 < i + 1) × (c .column .0 < columns)
   there = rw p (j .block z, j .column z)
 
   pub more-long : length (cutIn columns (i + 1) c sets) ≡ 4096
   more-long = cut-in-length columns (i + 1) c sets wide (omega arith) (there .0) (there .1) long
 
-  pub made-more : (t : Task) → Made t s columns i sets → Made t s columns (i + 1) (cutIn columns (i + 1) c sets)
+  pub made-more : (t : Task) → Made t f columns i sets → Made t f columns (i + 1) (cutIn columns (i + 1) c sets)
   made-more t m =
       cut-made columns (i + 1) c sets wide (omega arith) (there .0) (there .1) long ∙ ap₂ cutBlock m p
-      ∙ sym (blocks-more t (cutsNamed (cutOn s) i) (cutNamed (cutOn s i))) ∙ ap (blocksOf t) (sym (cuts-more (cutOn s) i) ∙ ap (cutsNamed (cutOn s)) (sym (add-one i)))
+      ∙ sym (blocks-more t (cutsNamed f i) (cutNamed (f i))) ∙ ap (blocksOf t) (sym (cuts-more f i) ∙ ap (cutsNamed f) (sym (add-one i)))
 
 -- what the loop holds
-pub record Going (t : Task) (s : List ℕ) (columns i : ℕ) (sets : List ℕ) : Type 0 where
-  pub passed : judged (each i (cutPart t (cutOn s))) ≡ 0
-  pub made : Made t s columns i sets
+pub record Going (t : Task) (f : ℕ → CutFields) (columns i : ℕ) (sets : List ℕ) : Type 0 where
+  pub passed : judged (each i (cutPart t f)) ≡ 0
+  pub made : Made t f columns i sets
 
-pub going-on : (t : Task) (s sets : List ℕ) (columns i : ℕ) {c : Cut} {r : ℕ} {next : List ℕ} → columns ≤ 16 → i < 255 → length sets ≡ 4096 → c ≡ cutNamed (cutOn s i) → r ≡ 0 → CutJudged s columns i r
-    → r ≡ judged (cutPart t (cutOn s) i) → next ≡ cutIn columns (i + 1) c sets → Going t s columns i sets → Going t s columns (i + 1) next
-going-on t s sets columns i wide room long p z j e n g =
-    record { passed = pass i (cutPart t (cutOn s)) (g .passed) e z; made = rw n (made-more s sets columns i wide room long p z j t (g .made)) }
+pub going-on : (t : Task) (f : ℕ → CutFields) (sets : List ℕ) (columns i : ℕ) {c : Cut} {r : ℕ} {next : List ℕ} → columns ≤ 16 → i < 255 → length sets ≡ 4096 → c ≡ cutNamed (f i) → r ≡ 0 → CutJudged f columns i r
+    → r ≡ judged (cutPart t f i) → next ≡ cutIn columns (i + 1) c sets → Going t f columns i sets → Going t f columns (i + 1) next
+going-on t f sets columns i wide room long p z j e n g =
+    record { passed = pass i (cutPart t f) (g .passed) e z; made = rw n (made-more f sets columns i wide room long p z j t (g .made)) }
 
-pub going-end : (t : Task) (s sets : List ℕ) (columns i count : ℕ) → i ≤ count → count ≤ i → Going t s columns i sets → CutsJudged t s columns count 0 sets
-going-end t s sets columns i count h g q =
+pub going-end : (t : Task) (f : ℕ → CutFields) (sets : List ℕ) (columns i count : ℕ) → i ≤ count → count ≤ i → Going t f columns i sets → CutsJudged t f columns count 0 sets
+going-end t f sets columns i count h g q =
     let e : i ≡ count = omega arith in
-    record { refusal = end i count (cutPart t (cutOn s)) h g (q .passed); made = λ z. subst (λ (k : ℕ). Made t s columns k sets) e (q .made) }
+    record { refusal = end i count (cutPart t f) h g (q .passed); made = λ z. subst (λ (k : ℕ). Made t f columns k sets) e (q .made) }
 
-pub going-stop : (t : Task) (s sets exit : List ℕ) (columns i count : ℕ) {r : ℕ} → i < count → Going t s columns i sets → r ≡ judged (cutPart t (cutOn s) i) → (r ≡ 0 → ⊥)
-    → CutsJudged t s columns count r exit
-going-stop t s sets exit columns i count h q e z = record { refusal = hit i count (cutPart t (cutOn s)) h (q .passed) e z; made = λ n. absurd (z n) }
+pub going-stop : (t : Task) (f : ℕ → CutFields) (sets exit : List ℕ) (columns i count : ℕ) {r : ℕ} → i < count → Going t f columns i sets → r ≡ judged (cutPart t f i) → (r ≡ 0 → ⊥)
+    → CutsJudged t f columns count r exit
+going-stop t f sets exit columns i count h q e z = record { refusal = hit i count (cutPart t f) h (q .passed) e z; made = λ n. absurd (z n) }
 
 -- ---- the whole part, by what each of its parts was judged
 module _ (t : Task) (s : List ℕ) where
@@ -169,11 +170,11 @@ module _ (t : Task) (s : List ℕ) where
       rest-refused exit columns z e = refused exit columns z (went (Form ∷ []) (Count ∷ Rest) ea za (went (Count ∷ []) Rest eb zb e))
 
       -- a refusal of the cuts, and of the fill
-      pub cuts-refused : (exit : List ℕ) (columns : ℕ) {c : ℕ} → CutsJudged t s columns n c exit → (c ≡ 0 → ⊥) → PartJudged t s columns c exit
+      pub cuts-refused : (exit : List ℕ) (columns : ℕ) {c : ℕ} → CutsJudged t (cutOn s) columns n c exit → (c ≡ 0 → ⊥) → PartJudged t s columns c exit
       cuts-refused exit columns j z =
           rest-refused exit columns z (stopped (Cuts (countOf s)) (Fill (countOf s)) (j .refusal ∙ ap (λ (k : ℕ). judged (Cuts k)) en) z)
 
-      module _ (exit : List ℕ) (columns : ℕ) {c : ℕ} (j : CutsJudged t s columns n c exit) (zc : c ≡ 0) where
+      module _ (exit : List ℕ) (columns : ℕ) {c : ℕ} (j : CutsJudged t (cutOn s) columns n c exit) (zc : c ≡ 0) where
         past-cuts : {d : ℕ} → d ≡ judged (Fill n) → d ≡ judged Rest
         past-cuts e = went (Cuts (countOf s)) (Fill (countOf s)) (j .refusal ∙ ap (λ (k : ℕ). judged (Cuts k)) en) zc (e ∙ ap (λ (k : ℕ). judged (Fill k)) en)
 
@@ -188,7 +189,7 @@ module _ (t : Task) (s : List ℕ) where
               refusal =
                   last-went (Form ∷ Count ∷ Rest) (cutFollows s ∷ []) (went (Form ∷ []) (Count ∷ Rest) ea za (went (Count ∷ []) Rest eb zb (past-cuts e))) z
                   (f ∙ ap (λ (k : ℕ). refusal (check 6 (ltb (cutBytes k) (length s)) ∷ [])) en);
-              made = λ q. subst (λ (k : ℕ). Made t s columns k exit) en (j .made zc);
+              made = λ q. subst (λ (k : ℕ). Made t (cutOn s) columns k exit) en (j .made zc);
             }
 
 -- the count of a part whose header was accepted

@@ -6,23 +6,23 @@ use Rattle.task.specs.Task.{Task}
 use Rattle.fields.specs.Judging.{judged, each}
 use Rattle.blocks.specs.Blocks.{blocksOf}
 use Rattle.blocks.specs.Flat.{blocksIn}
-use Rattle.cut_sheets.specs.CutPart.{cutNamed, cutsNamed, cutPart, cutOn, countOf, judgeCuts}
+use Rattle.cut_sheets.specs.CutPart.{CutFields, cutNamed, cutsNamed, cutPart, cutOn, countOf, judgeCuts}
 
 -- the array holds the blocks of the first i cuts
-abbrev pub Made : Task → List ℕ → ℕ → ℕ → List ℕ → Type 0
-Made t s columns i sets = blocksIn columns (i + 1) sets ≡ blocksOf t (cutsNamed (cutOn s) i)
+abbrev pub Made : Task → (ℕ → CutFields) → ℕ → ℕ → List ℕ → Type 0
+Made t c columns i sets = blocksIn columns (i + 1) sets ≡ blocksOf t (cutsNamed c i)
 
 -- cut i was judged by the blocks so far; where it was accepted, its block and its column are there
-pub record CutJudged (s : List ℕ) (columns i r : ℕ) : Type 0 where
-  pub block : r ≡ 0 → cutNamed (cutOn s i) .block .0 < i + 1
-  pub column : r ≡ 0 → cutNamed (cutOn s i) .column .0 < columns
+pub record CutJudged (c : ℕ → CutFields) (columns i r : ℕ) : Type 0 where
+  pub block : r ≡ 0 → cutNamed (c i) .block .0 < i + 1
+  pub column : r ≡ 0 → cutNamed (c i) .column .0 < columns
 
 -- all cuts were judged, and made where none was refused
-pub record CutsJudged (t : Task) (s : List ℕ) (columns count r : ℕ) (sets : List ℕ) : Type 0 where
-  pub refusal : r ≡ judged (each count (cutPart t (cutOn s)))
-  pub made : r ≡ 0 → Made t s columns count sets
+pub record CutsJudged (t : Task) (c : ℕ → CutFields) (columns count r : ℕ) (sets : List ℕ) : Type 0 where
+  pub refusal : r ≡ judged (each count (cutPart t c))
+  pub made : r ≡ 0 → Made t c columns count sets
 
 -- the whole part was judged
 pub record PartJudged (t : Task) (s : List ℕ) (columns r : ℕ) (sets : List ℕ) : Type 0 where
   pub refusal : r ≡ judgeCuts t s
-  pub made : r ≡ 0 → Made t s columns (countOf s) sets
+  pub made : r ≡ 0 → Made t (cutOn s) columns (countOf s) sets

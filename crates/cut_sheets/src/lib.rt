@@ -36,7 +36,7 @@ fn read_cut(s: &[u8], i: usize) -> Cut
 // Cut i: 1 where its three fields are not there, 9 where the blocks so far do not take it, else 0.
 fn judge_cut(s: &[u8], i: usize, columns: usize, sets: &[u32; Model::BLOCKS * Model::COLUMNS]) -> u8
     requires { ⌜ (i < 255) × (columns ≤ limits .columns) ⌝ }
-    ensures { λ r. ⌜ CutJudged (now (s .entry)) columns i r × ((t : Task) → columnCount t ≡ columns → Made t (now (s .entry)) columns i (now (sets .entry)) → r ≡ judged (cutPart t (cutOn (now (s .entry))) i)) ⌝ }
+    ensures { λ r. ⌜ CutJudged (cutOn (now (s .entry))) columns i r × ((t : Task) → columnCount t ≡ columns → Made t (cutOn (now (s .entry))) columns i (now (sets .entry)) → r ≡ judged (cutPart t (cutOn (now (s .entry))) i)) ⌝ }
 {
     if s.len() < (12 + i * 44 + 44 + 7) / 8 {
         return 1;
@@ -50,7 +50,7 @@ fn judge_cut(s: &[u8], i: usize, columns: usize, sets: &[u32; Model::BLOCKS * Mo
 // The cuts of a part, each judged by the blocks that those before it made, and made in turn. At first the array holds block 0.
 fn judge_cuts(s: &[u8], count: usize, columns: usize, sets: &mut [u32; Model::BLOCKS * Model::COLUMNS]) -> u8
     requires { ⌜ (count < limits .blocks) × (columns ≤ limits .columns) × (length (now sets) ≡ limits .blocks * limits .columns) ⌝ }
-    ensures { λ r. ⌜ ((t : Task) → columnCount t ≡ columns → Made t (now (s .entry)) columns 0 (now (sets .entry)) → CutsJudged t (now (s .entry)) columns count r (now (sets .exit))) ⌝ }
+    ensures { λ r. ⌜ ((t : Task) → columnCount t ≡ columns → Made t (cutOn (now (s .entry))) columns 0 (now (sets .entry)) → CutsJudged t (cutOn (now (s .entry))) columns count r (now (sets .exit))) ⌝ }
 {
     let mut i: usize = 0;
     while i < count {
@@ -67,7 +67,7 @@ fn judge_cuts(s: &[u8], count: usize, columns: usize, sets: &mut [u32; Model::BL
 // The refusal of a cut part; 0 for none, and the array then holds the blocks of its cuts.
 pub fn judge_cut_part(s: &[u8], columns: usize, sets: &mut [u32; Model::BLOCKS * Model::COLUMNS]) -> u8
     requires { ⌜ (columns ≤ limits .columns) × (length (now sets) ≡ limits .blocks * limits .columns) ⌝ }
-    ensures { λ r. ⌜ ((t : Task) → columnCount t ≡ columns → Made t (now (s .entry)) columns 0 (now (sets .entry)) → PartJudged t (now (s .entry)) columns r (now (sets .exit))) ⌝ }
+    ensures { λ r. ⌜ ((t : Task) → columnCount t ≡ columns → Made t (cutOn (now (s .entry))) columns 0 (now (sets .entry)) → PartJudged t (now (s .entry)) columns r (now (sets .exit))) ⌝ }
 {
     let a = judge_field(s, 0, 4, 2, 2, 2);
     if a != 0 {

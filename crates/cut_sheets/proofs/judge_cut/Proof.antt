@@ -5,8 +5,8 @@ use mathlib.Core.Bool.{true, false}
 use borrow.Author.Tests.{not-true, not-false}
 use Rattle.task.specs.Task.{Task, columnCount}
 use Rattle.blocks.specs.Blocks.{cutOk}
-use Rattle.cut_sheets.specs.CutPart.{cutNamed, cutOn}
-use Rattle.cut_sheets.proofs.JudgeLaws.{cut-short, cut-bad, cut-good, told, judged-good}
+use Rattle.cut_sheets.specs.CutPart.{cutOn}
+use Rattle.cut_sheets.proofs.JudgeLaws.{cut-short, cut-bad, cut-good, sheet-short, sheet-whole, told, judged-good}
 use borrow.Author.Needs.{needs}
 use Rattle.cut_sheets.proofs.judge_cut.Statement.{statement}
 use Rattle.cut_sheets.proofs.judge_cut.Tie as tie
@@ -34,7 +34,7 @@ add-if1-3 c = search needs
 -- src/lib.rt:42:9
 returns : tie.Need-returns
 returns c = let g = c .before .before .args in
-    (record { block = λ z. absurd (omega arith); column = λ z. absurd (omega arith) }, λ t e m. cut-short t (g .s .now) (g .i) (omega arith))
+    (record { block = λ z. absurd (omega arith); column = λ z. absurd (omega arith) }, λ t e m. cut-short t (cutOn (g .s .now)) (g .i) (sheet-short (g .s .now) (g .i) (omega arith)))
 
 -- src/lib.rt:44:25
 add-cut-ok : tie.Need-add-cut-ok
@@ -50,18 +50,22 @@ cut-ok-requires c κs = search needs
 
 -- src/lib.rt:45:9
 returns-2 : tie.Need-returns-2
-returns-2 c = let g = c .before .before .before .before .before .args in (
+returns-2 c = let g = c .before .before .before .before .before .args in
+    let w = sheet-whole (g .s .now) (g .i) (omega arith) in
+    let f = cutOn (g .s .now) in (
       record { block = λ z. absurd (omega arith); column = λ z. absurd (omega arith) },
-      λ t e m. cut-bad t (g .s .now) (g .i) (omega arith)
-          (told t (g .s .now) (g .sets .now) (g .columns) (g .i) (c .before .before .read-cut .ensures) (c .before .cut-ok .ensures) e m ∙ not-true (c .before .cut-ok .result) (c .if2 .taken)),
+      λ t e m. cut-bad t f (g .i) (w .0) (w .1) (w .2)
+          (told t f (g .sets .now) (g .columns) (g .i) (c .before .before .read-cut .ensures) (c .before .cut-ok .ensures) e m ∙ not-true (c .before .cut-ok .result) (c .if2 .taken)),
     )
 
 -- src/lib.rt:37:1
 returns-3 : tie.Need-returns-3
 returns-3 c = let g = c .before .before .before .before .before .args in
-    let f = not-false (c .before .cut-ok .result) (c .if2 .left) in (
-      judged-good (g .s .now) (g .sets .now) (g .columns) (g .i) f (c .before .before .read-cut .ensures) (c .before .cut-ok .ensures),
-      λ t e m. cut-good t (g .s .now) (g .i) (omega arith) (told t (g .s .now) (g .sets .now) (g .columns) (g .i) (c .before .before .read-cut .ensures) (c .before .cut-ok .ensures) e m ∙ f),
+    let w = sheet-whole (g .s .now) (g .i) (omega arith) in
+    let f = cutOn (g .s .now) in
+    let ok = not-false (c .before .cut-ok .result) (c .if2 .left) in (
+      judged-good f (g .sets .now) (g .columns) (g .i) ok (c .before .before .read-cut .ensures) (c .before .cut-ok .ensures),
+      λ t e m. cut-good t f (g .i) (w .0) (w .1) (w .2) (told t f (g .sets .now) (g .columns) (g .i) (c .before .before .read-cut .ensures) (c .before .cut-ok .ensures) e m ∙ ok),
     )
 
 pub judge-cut-spec : {M : Type 1} → statement M

@@ -18,7 +18,7 @@ use Rattle.cut_sheets.proofs.read_cut.Reads as read-cut-reads
 
 abbrev Inv-loop : tie.InvT-loop
 Inv-loop s count columns sets₀ i₀ sets i =
-    ((i ≤ count) × (length sets ≡ 4096)) × ((t : Task) → columnCount t ≡ columns → Made t s columns 0 sets₀ → Going t s columns i sets)
+    ((i ≤ count) × (length sets ≡ 4096)) × ((t : Task) → columnCount t ≡ columns → Made t (cutOn s) columns 0 sets₀ → Going t (cutOn s) columns i sets)
 
 abbrev μ-loop : tie.MeasureT-loop
 μ-loop s count columns sets₀ i₀ sets i = count - i
@@ -34,7 +34,7 @@ judge-cut-requires c κs = search needs
 -- src/lib.rt:59:13
 returns : tie.Need-returns Inv-loop μ-loop
 returns c = let g = c .before .before .before .before .before .before .args in
-    λ t e m. going-stop t (g .s .now) (c .before .before .before .before .loop .sets) (c .before .before .before .before .loop .sets) (g .columns) (c .before .before .before .before .loop .i) (g .count) (c .before .before .before .loop-test .taken) (c .before .before .before .before .loop .inv .1 t e m)
+    λ t e m. going-stop t (cutOn (g .s .now)) (c .before .before .before .before .loop .sets) (c .before .before .before .before .loop .sets) (g .columns) (c .before .before .before .before .loop .i) (g .count) (c .before .before .before .loop-test .taken) (c .before .before .before .before .loop .inv .1 t e m)
         (c .before .judge-cut .ensures .1 t e (c .before .before .before .before .loop .inv .1 t e m .made)) (c .if1 .taken)
 
 -- src/lib.rt:61:27
@@ -48,7 +48,7 @@ read-cut-requires c κs = search needs
 -- src/lib.rt:61:9
 make-cut-requires : tie.Need-make-cut-requires Inv-loop μ-loop
 make-cut-requires c κs = let g = c .before .before .before .before .before .before .before .before .args in
-    let h = there (g .s .now) (c .before .before .before .before .before .before .loop .sets) (g .columns) (c .before .before .before .before .before .before .loop .i) (c .before .before .before .before .before .before .before .before .pre .1) (omega (arith, c .before .before .before .before .before .before .before .before .pre .0)) (c .before .before .before .before .before .before .loop .inv .0 .1) (c .before .read-cut .ensures) (c .before .before .if1 .left) (c .before .before .before .judge-cut .ensures .0) in
+    let h = there (cutOn (g .s .now)) (c .before .before .before .before .before .before .loop .sets) (g .columns) (c .before .before .before .before .before .before .loop .i) (c .before .before .before .before .before .before .before .before .pre .1) (omega (arith, c .before .before .before .before .before .before .before .before .pre .0)) (c .before .before .before .before .before .before .loop .inv .0 .1) (c .before .read-cut .ensures) (c .before .before .if1 .left) (c .before .before .before .judge-cut .ensures .0) in
     (c .before .before .before .before .before .before .before .before .pre .1, omega (arith, c .before .before .before .before .before .before .before .before .pre .0), h .0, h .1, c .before .before .before .before .before .before .loop .inv .0 .1)
 
 -- src/lib.rt:62:9
@@ -64,16 +64,16 @@ loop-again : tie.Need-loop-again Inv-loop μ-loop
 loop-again c = let g = c .before .before .before .before .before .before .before .before .before .args in
     let l = c .before .before .before .before .before .before .before .loop in
     let room : l .i < 255 = omega (arith, c .before .before .before .before .before .before .before .before .before .pre .0) in (
-      (search needs, ap length (c .make-cut .ensures) ∙ more-long (g .s .now) (l .sets) (g .columns) (l .i) (c .before .before .before .before .before .before .before .before .before .pre .1) room (l .inv .0 .1) (c .before .before .read-cut .ensures) (c .before .before .before .if1 .left) (c .before .before .before .before .judge-cut .ensures .0)),
+      (search needs, ap length (c .make-cut .ensures) ∙ more-long (cutOn (g .s .now)) (l .sets) (g .columns) (l .i) (c .before .before .before .before .before .before .before .before .before .pre .1) room (l .inv .0 .1) (c .before .before .read-cut .ensures) (c .before .before .before .if1 .left) (c .before .before .before .before .judge-cut .ensures .0)),
       λ t e m.
-          going-on t (g .s .now) (l .sets) (g .columns) (l .i) (c .before .before .before .before .before .before .before .before .before .pre .1) room (l .inv .0 .1) (c .before .before .read-cut .ensures) (c .before .before .before .if1 .left) (c .before .before .before .before .judge-cut .ensures .0)
+          going-on t (cutOn (g .s .now)) (l .sets) (g .columns) (l .i) (c .before .before .before .before .before .before .before .before .before .pre .1) room (l .inv .0 .1) (c .before .before .read-cut .ensures) (c .before .before .before .if1 .left) (c .before .before .before .before .judge-cut .ensures .0)
           (c .before .before .before .before .judge-cut .ensures .1 t e (l .inv .1 t e m .made)) (c .make-cut .ensures) (l .inv .1 t e m),
     )
 
 -- src/lib.rt:51:1
 returns-2 : tie.Need-returns-2 Inv-loop μ-loop
 returns-2 c = let g = c .before .before .before .args in
-    λ t e m. going-end t (g .s .now) (c .before .loop .sets) (g .columns) (c .before .loop .i) (g .count) (omega arith) (omega arith) (c .before .loop .inv .1 t e m)
+    λ t e m. going-end t (cutOn (g .s .now)) (c .before .loop .sets) (g .columns) (c .before .loop .i) (g .count) (omega arith) (omega arith) (c .before .loop .inv .1 t e m)
 
 pub judge-cuts-spec : {M : Type 1} → statement M
 judge-cuts-spec =
