@@ -1,5 +1,5 @@
 -- Laws for the code that judges a cut part: what each early end and each step of the loop says.
-use Prim.Native.Nat.{ℕ, suc, _+_, _*_, _≤_, _<_}
+use Prim.Native.Nat.{ℕ, _+_, _*_, _≤_, _<_}
 use native.Mathlib.Omega.{arith}
 use native.Mathlib.Numerals.{add-one}
 use mathlib.Core.Path.{_≡_, refl, sym, ap, ap₂, _∙_, subst}
@@ -14,16 +14,18 @@ use Rattle.fields.specs.Bits.{fieldAt}
 use Rattle.fields.specs.Judging.{Entry, onSheet, entry, free, outside, check, refusal, judged, each}
 use Rattle.fields.proofs.FieldLaws.{field-lt}
 use Rattle.sheets.specs.ModelSheet.{fillBits, fillPart}
-use Rattle.fields.proofs.JudgingLaws.{stopped, went, cut, spoilt, good, sheet-here, sheet-cut, pass, hit, end, last-stopped, last-went}
+use Rattle.fields.proofs.JudgingLaws.{stopped, went, cut, spoilt, good, sheet-here, sheet-cut, place-here, place-cut, pass, hit, end, last-stopped, last-went}
 use Rattle.blocks.specs.declared.Cut.{Cut}
 use Rattle.blocks.specs.Blocks.{Blocks, cutOk, cutBlock, blocksOf}
 use Rattle.blocks.specs.Flat.{blocksIn, cutIn}
 use Rattle.blocks.proofs.PartLaws.{fits}
+use Rattle.blocks.proofs.CutLaws as cuts
 use Rattle.blocks.proofs.CutLaws.{blocks-more}
 use Rattle.blocks.proofs.FlatLaws.{blocks-length, cut-in-length, cut-made}
 use Rattle.cut_sheets.specs.CutPart.{CutFields, cutNamed, cutsNamed, cutHeader, cutPart, cutOn, cutBits, cutBytes, cutFields, cutEntries, countOf, cutPartWith, ofCutPart, cutFollows, cutChecks, judgeCuts}
+use Rattle.cut_sheets.specs.CutSheet.{cutLent}
 use Rattle.cut_sheets.specs.Judged.{Made, CutJudged, CutsJudged, PartJudged}
-use Rattle.cut_sheets.proofs.CutPartLaws.{cuts-more}
+use Rattle.cut_sheets.proofs.CutPartLaws.{cuts-more, cuts-length}
 
 -- the cut that three values name
 pub named : (s : List ℕ) (i : ℕ) {a b w : ℕ} → a ≡ fieldAt s (12 + i * 44) 8 → b ≡ fieldAt s (12 + i * 44 + 8) 4 → w ≡ fieldAt s (12 + i * 44 + 8 + 4) 32
@@ -77,6 +79,37 @@ module _ (s : List ℕ) (i : ℕ) where
   pub sheet-whole : 12 + i * 44 + 44 ≤ 8 * length s → (cutOn s i .block .here ≡ true) × (cutOn s i .column .here ≡ true) × (cutOn s i .wanted .here ≡ true)
   unfolding cutOn
   sheet-whole h = (sheet-here s (12 + i * 44) 8 (omega arith), sheet-here s (12 + i * 44 + 8) 4 (omega arith), sheet-here s (12 + i * 44 + 8 + 4) 32 (omega arith))
+
+-- the fields of cut i of a lent list are there
+module _ (cuts : List ℕ) (i : ℕ) where
+  pub lent-short : length cuts < i * 3 + 3 → cutLent cuts i .wanted .here ≡ false
+  unfolding cutLent
+  lent-short h = place-cut cuts (i * 3 + 2) (omega arith)
+
+  pub lent-whole : i * 3 + 3 ≤ length cuts → (cutLent cuts i .block .here ≡ true) × (cutLent cuts i .column .here ≡ true) × (cutLent cuts i .wanted .here ≡ true)
+  unfolding cutLent
+  lent-whole h = (place-here cuts (i * 3) (omega arith), place-here cuts (i * 3 + 1) (omega arith), place-here cuts (i * 3 + 2) (omega arith))
+
+-- a number that has no room in its field names nothing that is there
+module _ (t : Task) (f : ℕ → CutFields) (i : ℕ) where
+  abbrev Bs : Blocks
+  Bs = blocksOf t (cutsNamed f i)
+
+  pub not-made : i < 255 → 256 ≤ f i .block .value → cutOk t Bs (cutNamed (f i)) ≡ false
+  unfolding cutNamed
+  not-made h k =
+      ⊎-elim
+      (λ (e : cutOk t Bs (cutNamed (f i)) ≡ true). absurd (omega (arith, fits t Bs (cutNamed (f i)) e .made, cuts.blocks-length t (cutsNamed f i), cuts-length f i)))
+      (λ (e : cutOk t Bs (cutNamed (f i)) ≡ false). e)
+      (true-or-false (cutOk t Bs (cutNamed (f i))))
+
+  pub not-there : columnCount t ≤ 16 → 16 ≤ f i .column .value → cutOk t Bs (cutNamed (f i)) ≡ false
+  unfolding cutNamed
+  not-there h k =
+      ⊎-elim
+      (λ (e : cutOk t Bs (cutNamed (f i)) ≡ true). absurd (omega (arith, fits t Bs (cutNamed (f i)) e .there)))
+      (λ (e : cutOk t Bs (cutNamed (f i)) ≡ false). e)
+      (true-or-false (cutOk t Bs (cutNamed (f i))))
 
 -- ---- what the test of a cut says whatever the task
 anyTask : ℕ → Task

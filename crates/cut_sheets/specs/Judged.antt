@@ -1,5 +1,6 @@
 -- What judging the cuts of a part leaves: its answer, and the blocks that the cuts made.
-use Prim.Native.Nat.{ℕ, _+_, _<_}
+use Prim.Native.Nat.{ℕ, _+_, _*_, _≤_, _<_}
+use lib.ListN.{length}
 use mathlib.Core.Path.{_≡_}
 use mathlib.Core.List.{List}
 use Rattle.task.specs.Task.{Task}
@@ -7,6 +8,7 @@ use Rattle.fields.specs.Judging.{judged, each}
 use Rattle.blocks.specs.Blocks.{blocksOf}
 use Rattle.blocks.specs.Flat.{blocksIn}
 use Rattle.cut_sheets.specs.CutPart.{CutFields, cutNamed, cutsNamed, cutPart, cutOn, countOf, judgeCuts}
+use Rattle.cut_sheets.specs.CutSheet.{cutLent}
 
 -- the array holds the blocks of the first i cuts
 abbrev pub Made : Task → (ℕ → CutFields) → ℕ → ℕ → List ℕ → Type 0
@@ -26,3 +28,8 @@ pub record CutsJudged (t : Task) (c : ℕ → CutFields) (columns count r : ℕ)
 pub record PartJudged (t : Task) (s : List ℕ) (columns r : ℕ) (sets : List ℕ) : Type 0 where
   pub refusal : r ≡ judgeCuts t s
   pub made : r ≡ 0 → Made t (cutOn s) columns (countOf s) sets
+
+-- cut i of a lent list was judged; where it was accepted, its place is there
+pub record LentJudged (cuts : List ℕ) (columns i r : ℕ) : Type 0 where
+  pub place : r ≡ 0 → i * 3 + 3 ≤ length cuts
+  pub cut : CutJudged (cutLent cuts) columns i r

@@ -2,12 +2,13 @@
 // scratch array as they are judged, since each is judged by the blocks that those before it made.
 ghost use mathlib.Core.Path.{_≡_};
 ghost use Prim.Native.Nat.{_+_, _*_, _≤_, _<_};
-ghost use lib.ListN.{length};
+ghost use lib.ListN.{length, getD};
 ghost use Rattle.task.specs.Sizes.{limits};
 ghost use Rattle.task.specs.Task.{Task, columnCount};
 ghost use Rattle.fields.specs.Judging.{judged};
 ghost use Rattle.cut_sheets.specs.CutPart.{cutNamed, cutPart, cutOn};
-ghost use Rattle.cut_sheets.specs.Judged.{Made, CutJudged, CutsJudged, PartJudged};
+ghost use Rattle.cut_sheets.specs.CutSheet.{cutLent};
+ghost use Rattle.cut_sheets.specs.Judged.{Made, CutJudged, CutsJudged, PartJudged, LentJudged};
 use blocks::Cut;
 use blocks::cut_ok;
 use blocks::make_cut;
@@ -48,7 +49,12 @@ fn judge_cut(s: &[u8], i: usize, columns: usize, sets: &[u32; Model::BLOCKS * Mo
 }
 
 // The cuts of a part, each judged by the blocks that those before it made, and made in turn. At first the array holds block 0.
-fn judge_cuts(s: &[u8], count: usize, columns: usize, sets: &mut [u32; Model::BLOCKS * Model::COLUMNS]) -> u8
+fn judge_cuts(
+    s: &[u8],
+    count: usize,
+    columns: usize,
+    sets: &mut [u32; Model::BLOCKS * Model::COLUMNS],
+) -> u8
     requires { ⌜ (count < limits .blocks) × (columns ≤ limits .columns) × (length (now sets) ≡ limits .blocks * limits .columns) ⌝ }
     ensures { λ r. ⌜ ((t : Task) → columnCount t ≡ columns → Made t (cutOn (now (s .entry))) columns 0 (now (sets .entry)) → CutsJudged t (cutOn (now (s .entry))) columns count r (now (sets .exit))) ⌝ }
 {
@@ -65,7 +71,11 @@ fn judge_cuts(s: &[u8], count: usize, columns: usize, sets: &mut [u32; Model::BL
 }
 
 // The refusal of a cut part; 0 for none, and the array then holds the blocks of its cuts.
-pub fn judge_cut_part(s: &[u8], columns: usize, sets: &mut [u32; Model::BLOCKS * Model::COLUMNS]) -> u8
+pub fn judge_cut_part(
+    s: &[u8],
+    columns: usize,
+    sets: &mut [u32; Model::BLOCKS * Model::COLUMNS],
+) -> u8
     requires { ⌜ (columns ≤ limits .columns) × (length (now sets) ≡ limits .blocks * limits .columns) ⌝ }
     ensures { λ r. ⌜ ((t : Task) → columnCount t ≡ columns → Made t (cutOn (now (s .entry))) columns 0 (now (sets .entry)) → PartJudged t (now (s .entry)) columns r (now (sets .exit))) ⌝ }
 {
@@ -89,6 +99,68 @@ pub fn judge_cut_part(s: &[u8], columns: usize, sets: &mut [u32; Model::BLOCKS *
     }
     if (bits + 7) / 8 < s.len() {
         return 6;
+    }
+    0
+}
+
+// Cut i of a lent list, whose numbers are within the limits.
+fn lent_cut(cuts: &[u32], i: usize) -> Cut
+    requires { ⌜ (i < 255) × (i * 3 + 3 ≤ length (now cuts)) × (getD (now cuts) (i * 3) 0 < limits .blocks) × (getD (now cuts) (i * 3 + 1) 0 < limits .columns) ⌝ }
+    ensures { λ r. ⌜ r ≡ cutNamed (cutLent (now (cuts .entry)) i) ⌝ }
+{
+    let block = cuts[i * 3];
+    let column = cuts[i * 3 + 1];
+    let wanted = cuts[i * 3 + 2];
+    Cut {
+        block: Block(block as u16),
+        column: Column(column as u8),
+        wanted: wanted,
+    }
+}
+
+// Cut i of a lent list, as judge_cut judges one of a part. A number that has no room in its field names nothing that is there.
+fn judge_lent_cut(
+    cuts: &[u32],
+    i: usize,
+    columns: usize,
+    sets: &[u32; Model::BLOCKS * Model::COLUMNS],
+) -> u8
+    requires { ⌜ (i < 255) × (columns ≤ limits .columns) ⌝ }
+    ensures { λ r. ⌜ LentJudged (now (cuts .entry)) columns i r × ((t : Task) → columnCount t ≡ columns → Made t (cutLent (now (cuts .entry))) columns i (now (sets .entry)) → r ≡ judged (cutPart t (cutLent (now (cuts .entry))) i)) ⌝ }
+{
+    if cuts.len() < i * 3 + 3 {
+        return 1;
+    }
+    if Model::BLOCKS as u32 <= cuts[i * 3] {
+        return 9;
+    }
+    if Model::COLUMNS as u32 <= cuts[i * 3 + 1] {
+        return 9;
+    }
+    if !cut_ok(columns, i + 1, lent_cut(cuts, i), sets) {
+        return 9;
+    }
+    0
+}
+
+// The cuts of a lent list, as judge_cuts judges those of a part.
+pub fn judge_lent_cuts(
+    cuts: &[u32],
+    count: usize,
+    columns: usize,
+    sets: &mut [u32; Model::BLOCKS * Model::COLUMNS],
+) -> u8
+    requires { ⌜ (count < limits .blocks) × (columns ≤ limits .columns) × (length (now sets) ≡ limits .blocks * limits .columns) ⌝ }
+    ensures { λ r. ⌜ ((t : Task) → columnCount t ≡ columns → Made t (cutLent (now (cuts .entry))) columns 0 (now (sets .entry)) → CutsJudged t (cutLent (now (cuts .entry))) columns count r (now (sets .exit))) ⌝ }
+{
+    let mut i: usize = 0;
+    while i < count {
+        let r = judge_lent_cut(cuts, i, columns, sets);
+        if r != 0 {
+            return r;
+        }
+        make_cut(columns, i + 1, lent_cut(cuts, i), sets);
+        i += 1;
     }
     0
 }

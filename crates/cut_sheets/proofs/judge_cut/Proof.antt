@@ -1,54 +1,37 @@
 use native.Mathlib.Omega.{arith}
-use Prim.Native.Nat.{_+_, _*_}
-use mathlib.Core.Path.{_≡_, refl, sym, ap, _∙_}
-use mathlib.Core.Bool.{true, false}
+use mathlib.Core.Path.{_∙_}
 use borrow.Author.Tests.{not-true, not-false}
-use Rattle.task.specs.Task.{Task, columnCount}
-use Rattle.blocks.specs.Blocks.{cutOk}
 use Rattle.cut_sheets.specs.CutPart.{cutOn}
 use Rattle.cut_sheets.proofs.JudgeLaws.{cut-short, cut-bad, cut-good, sheet-short, sheet-whole, told, judged-good}
 use borrow.Author.Needs.{needs}
 use Rattle.cut_sheets.proofs.judge_cut.Statement.{statement}
 use Rattle.cut_sheets.proofs.judge_cut.Tie as tie
-use Rattle.cut_sheets.proofs.judge_cut.Reads as reads
-use Rattle.cut_sheets.proofs.judge_cut.Lts as lts
-use Rattle.blocks.proofs.cut_ok.Reads as cut-ok-reads
-use Rattle.cut_sheets.proofs.read_cut.Reads as read-cut-reads
 
--- src/lib.rt:41:24
 mul-if1 : tie.Need-mul-if1
 mul-if1 c = search needs
 
--- src/lib.rt:41:19
 add-if1 : tie.Need-add-if1
 add-if1 c = search needs
 
--- src/lib.rt:41:19
 add-if1-2 : tie.Need-add-if1-2
 add-if1-2 c = search needs
 
--- src/lib.rt:41:19
 add-if1-3 : tie.Need-add-if1-3
 add-if1-3 c = search needs
 
--- src/lib.rt:42:9
 returns : tie.Need-returns
 returns c = let g = c .before .before .args in
     (record { block = λ z. absurd (omega arith); column = λ z. absurd (omega arith) }, λ t e m. cut-short t (cutOn (g .s .now)) (g .i) (sheet-short (g .s .now) (g .i) (omega arith)))
 
--- src/lib.rt:44:25
 add-cut-ok : tie.Need-add-cut-ok
 add-cut-ok c = search needs
 
--- src/lib.rt:44:32
 read-cut-requires : tie.Need-read-cut-requires
 read-cut-requires c κs = search needs
 
--- src/lib.rt:44:9
 cut-ok-requires : tie.Need-cut-ok-requires
 cut-ok-requires c κs = search needs
 
--- src/lib.rt:45:9
 returns-2 : tie.Need-returns-2
 returns-2 c = let g = c .before .before .before .before .before .args in
     let w = sheet-whole (g .s .now) (g .i) (omega arith) in
@@ -58,7 +41,6 @@ returns-2 c = let g = c .before .before .before .before .before .args in
           (told t f (g .sets .now) (g .columns) (g .i) (c .before .before .read-cut .ensures) (c .before .cut-ok .ensures) e m ∙ not-true (c .before .cut-ok .result) (c .if2 .taken)),
     )
 
--- src/lib.rt:37:1
 returns-3 : tie.Need-returns-3
 returns-3 c = let g = c .before .before .before .before .before .args in
     let w = sheet-whole (g .s .now) (g .i) (omega arith) in

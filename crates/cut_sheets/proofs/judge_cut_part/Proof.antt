@@ -1,6 +1,4 @@
-use Prim.Native.Nat.{_≤_, _<_}
 use native.Mathlib.Omega.{arith}
-use mathlib.Core.Path.{_≡_, refl, sym, ap, _∙_}
 use borrow.Author.Tests.{lt-ltb, le-ltb}
 use lib.Dec.{ltb}
 use lib.ListN.{length}
@@ -12,94 +10,73 @@ use Rattle.cut_sheets.proofs.JudgeLaws.{form-refused, count-refused, cu
 use borrow.Author.Needs.{needs}
 use Rattle.cut_sheets.proofs.judge_cut_part.Statement.{statement}
 use Rattle.cut_sheets.proofs.judge_cut_part.Tie as tie
-use Rattle.cut_sheets.proofs.judge_cut_part.Reads as reads
-use Rattle.cut_sheets.proofs.judge_cut_part.Lts as lts
-use Rattle.cut_sheets.proofs.judge_cuts.Reads as judge-cuts-reads
-use Rattle.fields.proofs.field.field.Reads as field-reads
-use Rattle.fields.proofs.field.judge_field.Reads as judge-field-reads
 
--- src/lib.rt:72:9
 judge-field-requires : tie.Need-judge-field-requires
 judge-field-requires c κs = search needs
 
--- src/lib.rt:74:9
 returns : tie.Need-returns
 returns c = let g = c .before .before .before .args in
     λ t e m. form-refused t (g .s .now) (g .sets .now) (g .columns) (c .before .judge-field .ensures) (c .if1 .taken)
 
--- src/lib.rt:76:9
 judge-field-requires-2 : tie.Need-judge-field-requires-2
 judge-field-requires-2 c κs = search needs
 
--- src/lib.rt:78:9
 returns-2 : tie.Need-returns-2
 returns-2 c = let g = c .before .before .before .before .before .args in
     λ t e m. count-refused t (g .s .now) (c .before .before .before .judge-field .ensures) (c .before .before .if1 .left) (g .sets .now) (g .columns) (c .before .judge-field2 .ensures) (c .if2 .taken)
 
--- src/lib.rt:80:17
 field-requires : tie.Need-field-requires
 field-requires c κs = search needs
 
--- src/lib.rt:80:17
 cast-count : tie.Need-cast-count
 cast-count c = search needs
 
--- src/lib.rt:81:9
 judge-cuts-requires : tie.Need-judge-cuts-requires
 judge-cuts-requires c κs = (count-below (c .before .before .before .before .before .before .before .args .s .now) (c .before .field .ensures), c .before .before .before .before .before .before .before .pre .0, c .before .before .before .before .before .before .before .pre .1)
 
--- src/lib.rt:83:9
 returns-3 : tie.Need-returns-3
 returns-3 c = let g = c .before .before .before .before .before .before .before .before .before .args in
     λ t e m.
-        cuts-refused t (g .s .now) (c .before .before .before .before .before .before .before .judge-field .ensures) (c .before .before .before .before .before .before .if1 .left) (c .before .before .before .before .before .judge-field2 .ensures) (c .before .before .before .before .if2 .left) (c .before .before .before .field .ensures)
-        _ (g .columns) (c .before .judge-cuts .ensures t e m) (c .if3 .taken)
+    cuts-refused t (g .s .now) (c .before .before .before .before .before .before .before .judge-field .ensures) (c .before .before .before .before .before .before .if1 .left) (c .before .before .before .before .before .judge-field2 .ensures) (c .before .before .before .before .if2 .left) (c .before .before .before .field .ensures)
+    _ (g .columns) (c .before .judge-cuts .ensures t e m) (c .if3 .taken)
 
--- src/lib.rt:85:21
 mul-bits : tie.Need-mul-bits
 mul-bits c = search needs
 
--- src/lib.rt:85:16
 add-bits : tie.Need-add-bits
 add-bits c = search needs
 
--- src/lib.rt:86:35
 sub-judge-field : tie.Need-sub-judge-field
 sub-judge-field c = search needs
 
--- src/lib.rt:86:9
 judge-field-requires-3 : tie.Need-judge-field-requires-3
 judge-field-requires-3 c κs = let l = count-below (c .before .before .before .before .before .before .before .before .before .args .s .now) (c .before .before .before .field .ensures) in (omega arith, omega arith)
 
--- src/lib.rt:88:9
 returns-4 : tie.Need-returns-4
 unfolding fillPart cutBits
 returns-4 c = let g = c .before .before .before .before .before .before .before .before .before .before .before .args in
     λ t e m.
-        fill-refused t (g .s .now) (c .before .before .before .before .before .before .before .before .before .judge-field .ensures) (c .before .before .before .before .before .before .before .before .if1 .left) (c .before .before .before .before .before .before .before .judge-field2 .ensures) (c .before .before .before .before .before .before .if2 .left) (c .before .before .before .before .before .field .ensures)
-        _ (g .columns) (c .before .before .before .judge-cuts .ensures t e m) (c .before .before .if3 .left) (c .before .judge-field3 .ensures) (c .if4 .taken)
+    fill-refused t (g .s .now) (c .before .before .before .before .before .before .before .before .before .judge-field .ensures) (c .before .before .before .before .before .before .before .before .if1 .left) (c .before .before .before .before .before .before .before .judge-field2 .ensures) (c .before .before .before .before .before .before .if2 .left) (c .before .before .before .before .before .field .ensures)
+    _ (g .columns) (c .before .before .before .judge-cuts .ensures t e m) (c .before .before .if3 .left) (c .before .judge-field3 .ensures) (c .if4 .taken)
 
--- src/lib.rt:90:9
 add-if5 : tie.Need-add-if5
 add-if5 c = search needs
 
--- src/lib.rt:91:9
 returns-5 : tie.Need-returns-5
 unfolding fillPart cutBits bytesFor
 returns-5 c = let g = c .before .before .before .before .before .before .before .before .before .before .before .before .args in
     λ t e m.
-        part-end t (g .s .now) (c .before .before .before .before .before .before .before .before .before .before .judge-field .ensures) (c .before .before .before .before .before .before .before .before .before .if1 .left) (c .before .before .before .before .before .before .before .before .judge-field2 .ensures) (c .before .before .before .before .before .before .before .if2 .left) (c .before .before .before .before .before .before .field .ensures)
-        _ (g .columns) (c .before .before .before .before .judge-cuts .ensures t e m) (c .before .before .before .if3 .left) (c .before .before .judge-field3 .ensures) (c .before .if4 .left)
-        (applies 6 (ltb (cutBytes (c .before .before .before .before .before .before .field .result)) (length (g .s .now))) _ (lt-ltb (cutBytes (c .before .before .before .before .before .before .field .result)) (length (g .s .now)) (c .if5 .taken)) (λ z. omega arith))
+    part-end t (g .s .now) (c .before .before .before .before .before .before .before .before .before .before .judge-field .ensures) (c .before .before .before .before .before .before .before .before .before .if1 .left) (c .before .before .before .before .before .before .before .before .judge-field2 .ensures) (c .before .before .before .before .before .before .before .if2 .left) (c .before .before .before .before .before .before .field .ensures)
+    _ (g .columns) (c .before .before .before .before .judge-cuts .ensures t e m) (c .before .before .before .if3 .left) (c .before .before .judge-field3 .ensures) (c .before .if4 .left)
+    (applies 6 (ltb (cutBytes (c .before .before .before .before .before .before .field .result)) (length (g .s .now))) _ (lt-ltb (cutBytes (c .before .before .before .before .before .before .field .result)) (length (g .s .now)) (c .if5 .taken)) (λ z. omega arith))
 
--- src/lib.rt:68:1
 returns-6 : tie.Need-returns-6
 unfolding fillPart cutBits bytesFor
 returns-6 c = let g = c .before .before .before .before .before .before .before .before .before .before .before .before .args in
     λ t e m.
-        part-end t (g .s .now) (c .before .before .before .before .before .before .before .before .before .before .judge-field .ensures) (c .before .before .before .before .before .before .before .before .before .if1 .left) (c .before .before .before .before .before .before .before .before .judge-field2 .ensures) (c .before .before .before .before .before .before .before .if2 .left) (c .before .before .before .before .before .before .field .ensures)
-        _ (g .columns) (c .before .before .before .before .judge-cuts .ensures t e m) (c .before .before .before .if3 .left) (c .before .before .judge-field3 .ensures) (c .before .if4 .left)
-        (passes 6 (ltb (cutBytes (c .before .before .before .before .before .before .field .result)) (length (g .s .now))) _ (le-ltb (cutBytes (c .before .before .before .before .before .before .field .result)) (length (g .s .now)) (c .if5 .left)) no-checks)
+    part-end t (g .s .now) (c .before .before .before .before .before .before .before .before .before .before .judge-field .ensures) (c .before .before .before .before .before .before .before .before .before .if1 .left) (c .before .before .before .before .before .before .before .before .judge-field2 .ensures) (c .before .before .before .before .before .before .before .if2 .left) (c .before .before .before .before .before .before .field .ensures)
+    _ (g .columns) (c .before .before .before .before .judge-cuts .ensures t e m) (c .before .before .before .if3 .left) (c .before .before .judge-field3 .ensures) (c .before .if4 .left)
+    (passes 6 (ltb (cutBytes (c .before .before .before .before .before .before .field .result)) (length (g .s .now))) _ (le-ltb (cutBytes (c .before .before .before .before .before .before .field .result)) (length (g .s .now)) (c .if5 .left)) no-checks)
 
 pub judge-cut-part-spec : {M : Type 1} → statement M
 judge-cut-part-spec =

@@ -1,6 +1,6 @@
 use Prim.Native.Nat.{_-_, _≤_, _<_}
 use native.Mathlib.Omega.{arith}
-use mathlib.Core.Path.{_≡_, refl, sym, ap, _∙_}
+use mathlib.Core.Path.{_≡_, ap, _∙_}
 use lib.ListN.{length}
 use Rattle.task.specs.Task.{Task, columnCount}
 use Rattle.cut_sheets.specs.CutPart.{cutPart, cutOn}
@@ -10,11 +10,6 @@ use Rattle.cut_sheets.proofs.JudgeLaws.{Going, going-on, going-end, goi
 use borrow.Author.Needs.{needs}
 use Rattle.cut_sheets.proofs.judge_cuts.Statement.{statement}
 use Rattle.cut_sheets.proofs.judge_cuts.Tie as tie
-use Rattle.cut_sheets.proofs.judge_cuts.Reads as reads
-use Rattle.cut_sheets.proofs.judge_cuts.Lts as lts
-use Rattle.blocks.proofs.make_cut.Reads as make-cut-reads
-use Rattle.cut_sheets.proofs.judge_cut.Reads as judge-cut-reads
-use Rattle.cut_sheets.proofs.read_cut.Reads as read-cut-reads
 
 abbrev Inv-loop : tie.InvT-loop
 Inv-loop s count columns sets₀ i₀ sets i =
@@ -23,43 +18,34 @@ Inv-loop s count columns sets₀ i₀ sets i =
 abbrev μ-loop : tie.MeasureT-loop
 μ-loop s count columns sets₀ i₀ sets i = count - i
 
--- src/lib.rt:56:5
 loop-holds : tie.Need-loop-holds Inv-loop μ-loop
 loop-holds c = (search needs, λ t e m. record { passed = none (cutPart t (cutOn (c .before .args .s .now))); made = m })
 
--- src/lib.rt:57:13
 judge-cut-requires : tie.Need-judge-cut-requires Inv-loop μ-loop
 judge-cut-requires c κs = search needs
 
--- src/lib.rt:59:13
 returns : tie.Need-returns Inv-loop μ-loop
 returns c = let g = c .before .before .before .before .before .before .args in
     λ t e m. going-stop t (cutOn (g .s .now)) (c .before .before .before .before .loop .sets) (c .before .before .before .before .loop .sets) (g .columns) (c .before .before .before .before .loop .i) (g .count) (c .before .before .before .loop-test .taken) (c .before .before .before .before .loop .inv .1 t e m)
-        (c .before .judge-cut .ensures .1 t e (c .before .before .before .before .loop .inv .1 t e m .made)) (c .if1 .taken)
+    (c .before .judge-cut .ensures .1 t e (c .before .before .before .before .loop .inv .1 t e m .made)) (c .if1 .taken)
 
--- src/lib.rt:61:27
 add-make-cut : tie.Need-add-make-cut Inv-loop μ-loop
 add-make-cut c = search needs
 
--- src/lib.rt:61:34
 read-cut-requires : tie.Need-read-cut-requires Inv-loop μ-loop
 read-cut-requires c κs = search needs
 
--- src/lib.rt:61:9
 make-cut-requires : tie.Need-make-cut-requires Inv-loop μ-loop
 make-cut-requires c κs = let g = c .before .before .before .before .before .before .before .before .args in
     let h = there (cutOn (g .s .now)) (c .before .before .before .before .before .before .loop .sets) (g .columns) (c .before .before .before .before .before .before .loop .i) (c .before .before .before .before .before .before .before .before .pre .1) (omega (arith, c .before .before .before .before .before .before .before .before .pre .0)) (c .before .before .before .before .before .before .loop .inv .0 .1) (c .before .read-cut .ensures) (c .before .before .if1 .left) (c .before .before .before .judge-cut .ensures .0) in
     (c .before .before .before .before .before .before .before .before .pre .1, omega (arith, c .before .before .before .before .before .before .before .before .pre .0), h .0, h .1, c .before .before .before .before .before .before .loop .inv .0 .1)
 
--- src/lib.rt:62:9
 add-i : tie.Need-add-i Inv-loop μ-loop
 add-i c = search needs
 
--- src/lib.rt:56:5
 loop-less : tie.Need-loop-less Inv-loop μ-loop
 loop-less c = search needs
 
--- src/lib.rt:56:5
 loop-again : tie.Need-loop-again Inv-loop μ-loop
 loop-again c = let g = c .before .before .before .before .before .before .before .before .before .args in
     let l = c .before .before .before .before .before .before .before .loop in
@@ -70,7 +56,6 @@ loop-again c = let g = c .before .before .before .before .before .before .before
           (c .before .before .before .before .judge-cut .ensures .1 t e (l .inv .1 t e m .made)) (c .make-cut .ensures) (l .inv .1 t e m),
     )
 
--- src/lib.rt:51:1
 returns-2 : tie.Need-returns-2 Inv-loop μ-loop
 returns-2 c = let g = c .before .before .before .args in
     λ t e m. going-end t (cutOn (g .s .now)) (c .before .loop .sets) (g .columns) (c .before .loop .i) (g .count) (omega arith) (omega arith) (c .before .loop .inv .1 t e m)

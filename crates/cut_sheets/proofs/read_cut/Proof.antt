@@ -5,51 +5,37 @@ use Rattle.cut_sheets.proofs.JudgeLaws.{named}
 use borrow.Author.Needs.{needs}
 use Rattle.cut_sheets.proofs.read_cut.Statement.{statement}
 use Rattle.cut_sheets.proofs.read_cut.Tie as tie
-use Rattle.cut_sheets.proofs.read_cut.Reads as reads
-use Rattle.cut_sheets.proofs.read_cut.Lts as lts
-use Rattle.fields.proofs.field.field.Reads as field-reads
 
--- src/lib.rt:25:19
 mul-at : tie.Need-mul-at
 mul-at c = search needs
 
--- src/lib.rt:25:14
 add-at : tie.Need-add-at
 add-at c = search needs
 
--- src/lib.rt:26:9
 field-requires : tie.Need-field-requires
 field-requires c κs = search needs
 
--- src/lib.rt:27:27
 add-field : tie.Need-add-field
 add-field c = search needs
 
--- src/lib.rt:27:9
 field-requires-2 : tie.Need-field-requires-2
 field-requires-2 c κs = search needs
 
--- src/lib.rt:28:27
 add-field-2 : tie.Need-add-field-2
 add-field-2 c = search needs
 
--- src/lib.rt:28:27
 add-field-3 : tie.Need-add-field-3
 add-field-3 c = search needs
 
--- src/lib.rt:28:9
 field-requires-3 : tie.Need-field-requires-3
 field-requires-3 c κs = search needs
 
--- src/lib.rt:30:22
 cast-t9 : tie.Need-cast-t9
 cast-t9 c = omega (arith, field-lt (c .before .before .before .before .args .s .now) (12 + c .before .before .before .before .args .i * 44) 8)
 
--- src/lib.rt:31:24
 cast-t11 : tie.Need-cast-t11
 cast-t11 c = omega (arith, field-lt (c .before .before .before .before .args .s .now) (12 + c .before .before .before .before .args .i * 44 + 8) 4)
 
--- src/lib.rt:21:1
 returns : tie.Need-returns
 returns c = named (c .before .before .before .before .args .s .now) (c .before .before .before .before .args .i) (c .before .before .field .ensures) (c .before .field2 .ensures) (c .field3 .ensures)
 

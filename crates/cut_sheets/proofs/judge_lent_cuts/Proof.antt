@@ -1,0 +1,82 @@
+use Prim.Native.Nat.{_-_, _≤_, _<_}
+use native.Mathlib.Omega.{arith}
+use mathlib.Core.Path.{_≡_, ap, _∙_}
+use lib.ListN.{length}
+use Rattle.task.specs.Task.{Task, columnCount}
+use Rattle.cut_sheets.specs.CutPart.{cutPart, cutNamed}
+use Rattle.cut_sheets.specs.CutSheet.{cutLent}
+use Rattle.cut_sheets.specs.Judged.{Made}
+use Rattle.fields.proofs.JudgingLaws.{none}
+use Rattle.cut_sheets.proofs.JudgeLaws.{Going, going-on, going-end, going-stop, there, more-long}
+use borrow.Author.Needs.{needs}
+use Rattle.cut_sheets.proofs.judge_lent_cuts.Statement.{statement}
+use Rattle.cut_sheets.proofs.judge_lent_cuts.Tie as tie
+
+abbrev Inv-loop : tie.InvT-loop
+Inv-loop cuts count columns sets₀ i₀ sets i =
+    ((i ≤ count) × (length sets ≡ 4096)) × ((t : Task) → columnCount t ≡ columns → Made t (cutLent cuts) columns 0 sets₀ → Going t (cutLent cuts) columns i sets)
+
+abbrev μ-loop : tie.MeasureT-loop
+μ-loop cuts count columns sets₀ i₀ sets i = count - i
+
+loop-holds : tie.Need-loop-holds Inv-loop μ-loop
+loop-holds c = (search needs, λ t e m. record { passed = none (cutPart t (cutLent (c .before .args .cuts .now))); made = m })
+
+judge-lent-cut-requires : tie.Need-judge-lent-cut-requires Inv-loop μ-loop
+judge-lent-cut-requires c κs = search needs
+
+returns : tie.Need-returns Inv-loop μ-loop
+returns c = let g = c .before .before .before .before .before .before .args in
+    λ t e m. going-stop t (cutLent (g .cuts .now)) (c .before .before .before .before .loop .sets) (c .before .before .before .before .loop .sets) (g .columns) (c .before .before .before .before .loop .i) (g .count) (c .before .before .before .loop-test .taken) (c .before .before .before .before .loop .inv .1 t e m)
+    (c .before .judge-lent-cut .ensures .1 t e (c .before .before .before .before .loop .inv .1 t e m .made)) (c .if1 .taken)
+
+add-make-cut : tie.Need-add-make-cut Inv-loop μ-loop
+add-make-cut c = search needs
+
+lent-cut-requires : tie.Need-lent-cut-requires Inv-loop μ-loop
+unfolding cutNamed cutLent
+lent-cut-requires c κs = let j = c .before .judge-lent-cut .ensures .0 in
+    let z = c .if1 .left in
+    (omega (arith, c .before .before .before .before .before .before .pre .0), j .place z, omega (arith, j .cut .block z, c .before .before .before .before .before .before .pre .0), omega (arith, j .cut .column z, c .before .before .before .before .before .before .pre .1))
+
+make-cut-requires : tie.Need-make-cut-requires Inv-loop μ-loop
+make-cut-requires c κs = let g = c .before .before .before .before .before .before .before .before .args in
+    let h = there (cutLent (g .cuts .now)) (c .before .before .before .before .before .before .loop .sets) (g .columns) (c .before .before .before .before .before .before .loop .i) (c .before .before .before .before .before .before .before .before .pre .1) (omega (arith, c .before .before .before .before .before .before .before .before .pre .0)) (c .before .before .before .before .before .before .loop .inv .0 .1) (c .before .lent-cut .ensures) (c .before .before .if1 .left) (c .before .before .before .judge-lent-cut .ensures .0 .cut) in
+    (c .before .before .before .before .before .before .before .before .pre .1, omega (arith, c .before .before .before .before .before .before .before .before .pre .0), h .0, h .1, c .before .before .before .before .before .before .loop .inv .0 .1)
+
+add-i : tie.Need-add-i Inv-loop μ-loop
+add-i c = search needs
+
+loop-less : tie.Need-loop-less Inv-loop μ-loop
+loop-less c = search needs
+
+loop-again : tie.Need-loop-again Inv-loop μ-loop
+loop-again c = let g = c .before .before .before .before .before .before .before .before .before .args in
+    let l = c .before .before .before .before .before .before .before .loop in
+    let room : l .i < 255 = omega (arith, c .before .before .before .before .before .before .before .before .before .pre .0) in (
+      (search needs, ap length (c .make-cut .ensures) ∙ more-long (cutLent (g .cuts .now)) (l .sets) (g .columns) (l .i) (c .before .before .before .before .before .before .before .before .before .pre .1) room (l .inv .0 .1) (c .before .before .lent-cut .ensures) (c .before .before .before .if1 .left) (c .before .before .before .before .judge-lent-cut .ensures .0 .cut)),
+      λ t e m.
+          going-on t (cutLent (g .cuts .now)) (l .sets) (g .columns) (l .i) (c .before .before .before .before .before .before .before .before .before .pre .1) room (l .inv .0 .1) (c .before .before .lent-cut .ensures) (c .before .before .before .if1 .left) (c .before .before .before .before .judge-lent-cut .ensures .0 .cut)
+          (c .before .before .before .before .judge-lent-cut .ensures .1 t e (l .inv .1 t e m .made)) (c .make-cut .ensures) (l .inv .1 t e m),
+    )
+
+returns-2 : tie.Need-returns-2 Inv-loop μ-loop
+returns-2 c = let g = c .before .before .before .args in
+    λ t e m. going-end t (cutLent (g .cuts .now)) (c .before .loop .sets) (g .columns) (c .before .loop .i) (g .count) (omega arith) (omega arith) (c .before .loop .inv .1 t e m)
+
+pub judge-lent-cuts-spec : {M : Type 1} → statement M
+judge-lent-cuts-spec =
+    tie.close
+    (tie.spec
+    Inv-loop
+    μ-loop
+    loop-holds
+    judge-lent-cut-requires
+    returns
+    add-make-cut
+    lent-cut-requires
+    make-cut-requires
+    add-i
+    loop-less
+    loop-again
+    returns-2)
