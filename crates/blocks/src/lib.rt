@@ -188,7 +188,7 @@ pub fn leads(
 }
 
 // Whether every wanted position lies in a set.
-fn lies(wanted: u32, a: u32) -> bool
+pub fn lies(wanted: u32, a: u32) -> bool
     ensures { λ r. ⌜ r ≡ lies wanted a ⌝ }
 {
     a & wanted == wanted

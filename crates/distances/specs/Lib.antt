@@ -1,1 +1,5 @@
 pub mod Distances
+pub mod Ways
+pub mod Turns
+pub mod Arcs
+pub mod Coded

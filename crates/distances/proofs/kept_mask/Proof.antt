@@ -1,0 +1,90 @@
+use mathlib.Core.Path.{_≡_, refl, sym, _∙_, ap}
+use mathlib.Core.Bool.{true, false, cond}
+use mathlib.Core.Logic.{⊎-elim}
+use Prim.Native.Nat.{ℕ, _≤_, _<_, _-_, _*_, _+_, _^_}
+use native.Mathlib.Omega.{arith}
+use lib.ListN.{length, getD, length-set}
+use Rattle.blocks.specs.Blocks.{common, isEmpty}
+use Rattle.blocks.specs.Flat.{past}
+use Rattle.distances.specs.Arcs.{bitsBelow, keeps, parted, keptMask, apartMask}
+use Rattle.distances.proofs.ArcLaws.{bits-none, mask-room, mask-more}
+use borrow.Author.Needs.{needs}
+use Rattle.distances.proofs.kept_mask.Statement.{statement}
+use Rattle.distances.proofs.kept_mask.Tie as tie
+use Rattle.distances.proofs.kept_mask.Reads as reads
+use Rattle.distances.proofs.kept_mask.Lts as lts
+use Rattle.distances.proofs.bit_if.Reads as bit-if-reads
+
+abbrev Inv-loop : tie.InvT-loop
+Inv-loop columns s lands rs w₀ j₀ w j = (j ≤ columns) × (w ≡ bitsBelow (keeps lands s) j)
+
+abbrev μ-loop : tie.MeasureT-loop
+μ-loop columns s lands rs w₀ j₀ w j = columns - j
+
+-- src/lib.rt:62:14
+mul-rs : tie.Need-mul-rs Inv-loop μ-loop
+mul-rs c = search needs
+
+-- src/lib.rt:65:5
+loop-holds : tie.Need-loop-holds Inv-loop μ-loop
+loop-holds c = (omega arith, sym (bits-none _))
+
+-- src/lib.rt:66:27
+add-bit-if : tie.Need-add-bit-if Inv-loop μ-loop
+add-bit-if c = search needs
+
+-- src/lib.rt:66:21
+mul-bit-if : tie.Need-mul-bit-if Inv-loop μ-loop
+mul-bit-if c = search needs
+
+-- src/lib.rt:66:21
+element-copy-out-bit-if : tie.Need-element-copy-out-bit-if Inv-loop μ-loop
+element-copy-out-bit-if c = search needs
+
+-- src/lib.rt:66:14
+bit-if-requires : tie.Need-bit-if-requires Inv-loop μ-loop
+bit-if-requires c κs = search needs
+
+-- src/lib.rt:66:9
+add-w : tie.Need-add-w Inv-loop μ-loop
+unfolding keeps past isEmpty
+add-w c = let l = c .before .before .before .loop in omega (arith, mask-room _ (l .j) (l .w) (c .bit-if .result) (l .inv .1) (c .bit-if .ensures) (omega arith))
+
+-- src/lib.rt:67:9
+add-j : tie.Need-add-j Inv-loop μ-loop
+add-j c = search needs
+
+-- src/lib.rt:65:5
+loop-less : tie.Need-loop-less Inv-loop μ-loop
+loop-less c = search needs
+
+-- src/lib.rt:65:5
+loop-again : tie.Need-loop-again Inv-loop μ-loop
+unfolding keeps past isEmpty
+loop-again c = let l = c .before .before .before .loop in (omega arith, mask-more _ (l .j) (l .w) _ (l .inv .1) (c .bit-if .ensures))
+
+-- src/lib.rt:58:1
+returns : tie.Need-returns Inv-loop μ-loop
+unfolding keptMask
+returns c =
+    let l = c .before .loop in
+    let e : l .j ≡ c .before .before .args .columns = omega arith in
+    rw e at (l .inv .1)
+
+pub kept-mask-spec : {M : Type 1} → statement M
+kept-mask-spec =
+    tie.close
+    (tie.spec
+    Inv-loop
+    μ-loop
+    mul-rs
+    loop-holds
+    add-bit-if
+    mul-bit-if
+    element-copy-out-bit-if
+    bit-if-requires
+    add-w
+    add-j
+    loop-less
+    loop-again
+    returns)

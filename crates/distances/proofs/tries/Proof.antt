@@ -1,0 +1,111 @@
+use Rattle.distances.proofs.ArcLaws.{lowered-same, arc-told}
+use Rattle.distances.proofs.LowerLaws.{Part, part-none, part-more, part-end}
+use Rattle.distances.specs.Arcs.{costIn}
+use Rattle.blocks.specs.Masks.{leadsBy}
+use lib.ListN.{length, getD, length-set}
+use native.Mathlib.Omega.{arith}
+use Prim.Native.Nat.{ℕ, _≤_, _<_, _-_, _*_, _+_, _^_, _/_}
+use mathlib.Core.Logic.{⊎-elim}
+use mathlib.Core.Bool.{true, false, cond}
+use mathlib.Core.Path.{_≡_, refl, sym, _∙_, ap}
+use borrow.Author.Needs.{needs}
+use Rattle.distances.proofs.tries.Statement.{statement}
+use Rattle.distances.proofs.tries.Tie as tie
+use Rattle.distances.proofs.tries.Reads as reads
+use Rattle.distances.proofs.tries.Lts as lts
+use Rattle.distances.proofs.lower.Reads as lower-reads
+use Rattle.distances.proofs.weigh.Reads as weigh-reads
+
+abbrev Inv-loop : tie.InvT-loop
+Inv-loop columns count steps b needs lands costs sets kept takes apart dist₀ base s₀ dist s = (s ≤ steps) × (length dist ≡ 256) × Part count (λ x a. leadsBy columns needs lands sets x a b) (costIn costs) dist₀ dist b s
+
+abbrev μ-loop : tie.MeasureT-loop
+μ-loop columns count steps b needs lands costs sets kept takes apart dist₀ base s₀ dist s = steps - s
+
+-- src/lib.rt:305:16
+mul-base : tie.Need-mul-base Inv-loop μ-loop
+mul-base c = search needs
+
+-- src/lib.rt:305:16
+element-copy-out-base : tie.Need-element-copy-out-base Inv-loop μ-loop
+element-copy-out-base c = search needs
+
+-- src/lib.rt:307:5
+loop-holds : tie.Need-loop-holds Inv-loop μ-loop
+loop-holds c = (omega arith, omega arith, part-none _ _ _ _ _)
+
+-- src/lib.rt:308:30
+mul-weigh : tie.Need-mul-weigh Inv-loop μ-loop
+mul-weigh c = search needs
+
+-- src/lib.rt:308:30
+shared-slice-read-weigh : tie.Need-shared-slice-read-weigh Inv-loop μ-loop
+shared-slice-read-weigh c = search needs
+
+-- src/lib.rt:308:24
+weigh-requires : tie.Need-weigh-requires Inv-loop μ-loop
+weigh-requires c κs = search needs
+
+-- src/lib.rt:308:17
+add-k : tie.Need-add-k Inv-loop μ-loop
+add-k c = search needs
+
+-- src/lib.rt:315:13
+mul-lower : tie.Need-mul-lower Inv-loop μ-loop
+mul-lower c = search needs
+
+-- src/lib.rt:315:13
+element-copy-out-lower : tie.Need-element-copy-out-lower Inv-loop μ-loop
+element-copy-out-lower c = search needs
+
+-- src/lib.rt:309:9
+lower-requires : tie.Need-lower-requires Inv-loop μ-loop
+lower-requires c κs = search needs
+
+-- src/lib.rt:322:9
+add-s : tie.Need-add-s Inv-loop μ-loop
+add-s c = search needs
+
+-- src/lib.rt:307:5
+loop-less : tie.Need-loop-less Inv-loop μ-loop
+loop-less c = search needs
+
+-- src/lib.rt:307:5
+loop-again : tie.Need-loop-again Inv-loop μ-loop
+loop-again c =
+    let l = c .before .before .before .before .before .before .loop in
+    let st = c .before .before .before .before .before .before .before .before .before in
+    let g = st .args in
+    let p = st .pre in (
+      omega arith,
+      c .lower .ensures .1,
+      part-more _ _ _ _ _ (l .inv .2)
+          (lowered-same _ _ _ _ _ _
+          (λ a h. arc-told (g .columns) (g .count) (g .steps) ((g .steps + 31) / 32) (g .needs .now) (g .lands .now) (g .sets .now) (g .b) (g .kept .now) (g .apart .now) (g .takes .now) (p .1 .0) (p .1 .1 .1) (p .1 .1 .0) (l .s) a (c .before .before .before .before .before .loop-test .taken) (omega (arith, c .before .before .before .before .before .loop-test .taken)) h)
+          (rw (c .before .before .before .weigh .ensures .0) at (c .lower .ensures .0))),
+    )
+
+-- src/lib.rt:288:1
+returns : tie.Need-returns Inv-loop μ-loop
+returns c = (part-end _ _ _ _ _ _ _ _ _ (omega arith) (omega arith) (c .before .loop .inv .2), c .before .loop .inv .1)
+
+pub tries-spec : {M : Type 1} → statement M
+tries-spec =
+    tie.close
+    (tie.spec
+    Inv-loop
+    μ-loop
+    mul-base
+    element-copy-out-base
+    loop-holds
+    mul-weigh
+    shared-slice-read-weigh
+    weigh-requires
+    add-k
+    mul-lower
+    element-copy-out-lower
+    lower-requires
+    add-s
+    loop-less
+    loop-again
+    returns)
