@@ -11,6 +11,7 @@ use Rattle.fields.specs.Bits.{putField}
 use Rattle.fields.specs.Judging.{given, inTable, outside, _then_, refusal, judged, each}
 use Rattle.fields.specs.Packing.{packed}
 use Rattle.fields.proofs.JudgingLaws.{good, inside, went, judged-append, last-stopped, last-went, applies, passes, no-checks}
+use Rattle.fields.proofs.PutLaws.{Bytes as AreBytes}
 use Rattle.fields.proofs.PackingLaws.{packed-append, packed-over}
 use Rattle.sheets.specs.ModelSheet.{Source, columnsIn, stepsIn, headerPart, columnPart, stepPart, fillPart, fieldsPart, entries, modelBits, modelBytes, fillBits}
 use Rattle.sheets.specs.LentTables.{columnIn, marksIn, ofTables, tooFew, writeChecks}
