@@ -240,7 +240,7 @@ module _ (s : List ℕ) where
       }
 
   module _ (ok : judgeSheet s ≡ 0) where
-    own-fine : Fine (ofSheet s) (columnsOf s) (stepsOf s)
+    pub own-fine : Fine (ofSheet s) (columnsOf s) (stepsOf s)
     unfolding judgePart entries ofSheet sheetWith
     own-fine = accepted (ofSheet s) (columnsOf s) (stepsOf s) (sheet-fine s ok .0)
 
