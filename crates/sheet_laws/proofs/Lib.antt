@@ -1,2 +1,4 @@
 pub mod Held
 pub mod TablesBack
+pub mod Largest
+pub mod Examples

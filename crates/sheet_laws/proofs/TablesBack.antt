@@ -13,16 +13,19 @@ use borrow.Author.Tests.{eq-eqb, ltb-true, lt-ltb, le-ltb}
 use Rattle.task.specs.Loops.{over}
 use Rattle.fields.specs.Judging.{Field, inTable, given, judged, refusal, each}
 use Rattle.fields.specs.Packing.{sheetOf}
-use Rattle.fields.proofs.JudgingLaws.{each-ext, refusal-append, go, passes, no-checks}
+use Rattle.fields.proofs.JudgingLaws.{each-ext, refusal-append, go, last-went, passes, no-checks}
 use Rattle.fields.proofs.PlaceLaws.{each-at}
 use Rattle.fields.proofs.PutLaws.{Bytes}
-use Rattle.sheets.specs.ModelSheet.{Source, ColumnFields, MarkFields, columnsIn, stepsIn, entries, fieldsPart, modelBytes, columnsOf, stepsOf, columnOn, costOn, marksOn, sheetWith, ofSheet, sheetChecks, judgeSheet}
+use Rattle.sheets.specs.ModelSheet.{Source, ColumnFields, MarkFields, columnsIn, stepsIn, entries, fieldsPart, modelBytes, columnsOf, stepsOf, columnOn, costOn, marksOn, sheetWith, ofSheet, sheetChecks, judgePart, judgeSheet}
 use Rattle.sheets.specs.LentTables.{columnValues, costValue, markValues, stepValues, frameOf, costsOf, marksOf, columnIn, marksIn, ofTables, readChecks, writeChecks}
 use Rattle.sheets.proofs.TableLaws.{column-length, cost-length, pair-length, row-length, frame-length, costs-length, marks-length}
-use Rattle.sheets.proofs.RoundLaws.{Fine, Same, same-fields, same-field, accepted, written-same, written-accepted, own-fine, read-write}
+use Rattle.sheets.proofs.RoundLaws.{Fine, Same, same-fields, same-field, accepted, written-same, written-accepted, own-fine, exact-length, read-write}
 
 use Rattle.reading.specs.declared.ModelRead.the-variants.{Held}
 use Rattle.reading.specs.Reading.{outcome, reading}
+use Rattle.sheets.proofs.SheetLaws.{sheet-fine}
+use Rattle.writing.specs.declared.write.SheetWritten.the-variants.{Bytes as SheetBytes}
+use Rattle.writing.specs.Writing.{outcome as written, writing}
 
 -- ---- what the tables of a model hold goes by its fields
 module _ (p q : Source) (e : Same p q (columnsIn p) (stepsIn p)) where
@@ -139,3 +142,118 @@ module _ (n m : ℕ) (frame costs marks : List ℕ) (ok : judged (entries (ofTab
     tables-back f c k hf hc hk =
         simp (eq-eqb (refusal (readChecks S f c k)) 0 (no-refusal S f c k (written-accepted P ok fits-tenths) (rw (written-counts .0) hf) (rw (written-counts .1) hc) (rw (written-counts .0, written-counts .1) hk)))
         (λ t. outcome (Held (written-counts .0 t) (written-counts .1 t)) (over (tables-found .0 t) f) (over (tables-found .1 t) c) (over (tables-found .2 t) k))
+
+-- ---- a writer refuses nothing of accepted fields where the bytes are enough
+write-fine : (p : Source) (sheet : List ℕ) → judged (entries p) ≡ 0 → modelBytes (columnsIn p) (stepsIn p) ≤ length sheet → refusal (writeChecks p sheet) ≡ 0
+unfolding writeChecks
+write-fine p sheet ok h = sym (last-went (entries p) _ refl ok (passes 8 _ [] (le-ltb (length sheet) (modelBytes (columnsIn p) (stepsIn p)) h) no-checks))
+
+part-of : (s : List ℕ) → judgeSheet s ≡ 0 → judged (entries (ofSheet s)) ≡ 0
+unfolding judgePart
+part-of s ok = sheet-fine s ok .0
+
+-- ---- read and written again
+module _ (xs l : List ℕ) (k : ℕ) (h : k < length xs) where
+  front-at : getD (over xs l) k 0 ≡ getD xs k 0
+  unfolding over
+  front-at = List·getD-append xs _ 0 k h
+
+  front-here : inTable (over xs l) k .here ≡ true
+  unfolding over
+  front-here = lt-ltb k (length (xs ++ drop (length xs) l)) (omega (arith, length-append xs (drop (length xs) l)))
+
+-- what stands in the tables of a model
+module _ (p : Source) where
+  module _ (i : ℕ) (h : i < columnsIn p) where
+    at-column : (k : ℕ) → k < 3 → getD (frameOf p) (i * 3 + k) 0 ≡ getD (columnValues (p .column) i) k 0
+    unfolding frameOf
+    at-column k l = each-at (columnValues (p .column)) 3 (column-length (p .column)) (columnsIn p) i k h l
+
+    in-frame : (k : ℕ) → k < 3 → i * 3 + k < length (frameOf p)
+    in-frame k l = omega (arith, frame-length p)
+
+  at-cost : (j : ℕ) → j < stepsIn p → getD (costsOf p) j 0 ≡ p .cost j .value
+  unfolding costsOf costValue
+  at-cost j h = let z : j * 1 + 0 ≡ j = omega arith in rw z at (each-at (costValue (p .cost)) 1 (cost-length (p .cost)) (stepsIn p) j 0 h (omega arith))
+
+  module _ (j i : ℕ) (h : j < stepsIn p) (l : i < columnsIn p) where
+    at-pair : (k : ℕ) → k < 2 → getD (marksOf p) (j * (columnsIn p * 2) + (i * 2 + k)) 0 ≡ getD (markValues (p .marks) j i) k 0
+    unfolding marksOf stepValues
+    at-pair k q =
+        each-at (stepValues (p .marks) (columnsIn p)) (columnsIn p * 2) (row-length (p .marks) (columnsIn p)) (stepsIn p) j (i * 2 + k) h (omega arith)
+        ∙ each-at (markValues (p .marks) j) 2 (pair-length (p .marks) j) (columnsIn p) i k l q
+
+    in-marks : (k : ℕ) → k < 2 → j * (columnsIn p * 2) + (i * 2 + k) < length (marksOf p)
+    in-marks k q =
+        omega (arith, marks-length p, suc-mul j (columnsIn p * 2), mul-le-mul {n₁ = suc j} {m₁ = columnsIn p * 2} {n₂ = stepsIn p} {m₂ = columnsIn p * 2} h (le-refl (columnsIn p * 2)))
+
+module _ (p : Source) (good : Fine p (columnsIn p) (stepsIn p)) (f c k : List ℕ) where
+  abbrev F : List ℕ
+  F = over (frameOf p) f
+
+  abbrev K : List ℕ
+  K = over (costsOf p) c
+
+  abbrev M : List ℕ
+  M = over (marksOf p) k
+
+  abbrev Q : Source
+  Q = ofTables (columnsIn p) (stepsIn p) F K M
+
+  -- a place of a filled table is the field that it was filled from
+  same-place : (xs l : List ℕ) (x : ℕ) (g : Field) → x < length xs → g .here ≡ true → getD xs x 0 ≡ g .value → inTable (over xs l) x ≡ g
+  same-place xs l x g h e v = same-field _ g (front-here xs l x h) e (front-at xs l x h ∙ v)
+
+  pub filled-same : Same Q p (columnsIn p) (stepsIn p)
+  unfolding ofTables columnIn marksIn columnValues markValues
+  filled-same =
+      record {
+        form = same-field (given 1) (p .form) refl (good .header .complete .0) (sym (good .header .form));
+        columns = same-field (given (columnsIn p)) (p .columns) refl (good .header .complete .1) refl;
+        steps = same-field (given (stepsIn p)) (p .steps) refl (good .header .complete .2) refl;
+        column = λ i h t. record {
+          size = same-place (frameOf p) f (i * 3) (p .column i .size) (rw add-zero at (in-frame p i h 0 (omega arith))) (good .size i h .0) (rw add-zero at (at-column p i h 0 (omega arith))) t;
+          start = same-place (frameOf p) f (i * 3 + 1) (p .column i .start) (in-frame p i h 1 (omega arith)) (good .start i h .0) (at-column p i h 1 (omega arith)) t;
+          goal = same-place (frameOf p) f (i * 3 + 2) (p .column i .goal) (in-frame p i h 2 (omega arith)) (good .goal i h .0) (at-column p i h 2 (omega arith)) t;
+        };
+        cost = λ j h. same-place (costsOf p) c j (p .cost j) (omega (arith, costs-length p)) (good .cost j h) (at-cost p j h);
+        marks = λ j i h l t. record {
+          need = same-place (marksOf p) k (j * (columnsIn p * 2) + i * 2) (p .marks j i .need) (omega (arith, in-marks p j i h l 0 (omega arith))) (good .need j i h l .0) (need-at j i h l) t;
+          effect = same-place (marksOf p) k (j * (columnsIn p * 2) + i * 2 + 1) (p .marks j i .effect) (omega (arith, in-marks p j i h l 1 (omega arith))) (good .effect j i h l .0) (effect-at j i h l) t;
+        };
+        fill = same-field (given 0) (p .fill) refl (good .fill .0) (sym (good .fill .1));
+      }
+    where
+      need-at : (j i : ℕ) → j < stepsIn p → i < columnsIn p → getD (marksOf p) (j * (columnsIn p * 2) + i * 2) 0 ≡ p .marks j i .need .value
+      need-at j i h l =
+          let z : j * (columnsIn p * 2) + (i * 2 + 0) ≡ j * (columnsIn p * 2) + i * 2 = omega arith in
+          ap (λ (x : ℕ). getD (marksOf p) x 0) (sym z) ∙ at-pair p j i h l 0 (omega arith)
+
+      effect-at : (j i : ℕ) → j < stepsIn p → i < columnsIn p → getD (marksOf p) (j * (columnsIn p * 2) + i * 2 + 1) 0 ≡ p .marks j i .effect .value
+      effect-at j i h l =
+          let z : j * (columnsIn p * 2) + (i * 2 + 1) ≡ j * (columnsIn p * 2) + i * 2 + 1 = omega arith in
+          ap (λ (x : ℕ). getD (marksOf p) x 0) (sym z) ∙ at-pair p j i h l 1 (omega arith)
+
+  pub filled-entries : entries Q ≡ entries p
+  unfolding entries ofTables
+  filled-entries = same-fields Q p (columnsIn p) (stepsIn p) filled-same
+
+-- accepted bytes, read into any tables and written from them, come back the same
+module _ (s : List ℕ) (ok : judgeSheet s ≡ 0) (bs : Bytes s) (f c k : List ℕ) where
+  abbrev R : Source
+  R = ofTables (columnsOf s) (stepsOf s) (over (frameOf (ofSheet s)) f) (over (costsOf (ofSheet s)) c) (over (marksOf (ofSheet s)) k)
+
+  again : entries R ≡ entries (ofSheet s)
+  unfolding ofSheet sheetWith
+  again = filled-entries (ofSheet s) (own-fine s ok) f c k
+
+  pub bytes-back : (sheet : List ℕ) → length s ≤ length sheet → writing R sheet ≡ written (SheetBytes (length s)) (over s sheet)
+  unfolding writing ofTables
+  bytes-back sheet h =
+      simp (eq-eqb (refusal (writeChecks R sheet)) 0 no-write-refusal) (λ t. written (SheetBytes (sym (exact-length s ok) t)) (over ((ap sheetOf again ∙ read-write s ok bs) t) sheet))
+    where
+      room : modelBytes (columnsIn R) (stepsIn R) ≤ length sheet
+      room = subst (λ (x : ℕ). x ≤ length sheet) (exact-length s ok) h
+
+      no-write-refusal : refusal (writeChecks R sheet) ≡ 0
+      no-write-refusal = write-fine R sheet (ap judged again ∙ part-of s ok) room
