@@ -20,7 +20,6 @@ use Rattle.sheets.specs.ModelSheet.{Source, ColumnFields, MarkFields, columnsIn
 use Rattle.sheets.specs.LentTables.{columnValues, costValue, markValues, stepValues, frameOf, costsOf, marksOf, columnIn, marksIn, ofTables, readChecks, writeChecks}
 use Rattle.sheets.proofs.TableLaws.{column-length, cost-length, pair-length, row-length, frame-length, costs-length, marks-length}
 use Rattle.sheets.proofs.RoundLaws.{Fine, Same, same-fields, same-field, accepted, written-same, written-accepted, own-fine, exact-length, read-write}
-
 use Rattle.reading.specs.declared.ModelRead.the-variants.{Held}
 use Rattle.reading.specs.Reading.{outcome, reading}
 use Rattle.sheets.proofs.SheetLaws.{sheet-fine}

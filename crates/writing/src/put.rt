@@ -45,10 +45,11 @@ fn put_marks(out: &mut [u8], frame: &[u8], marks: &[u8], n: usize, j: usize, i: 
     requires { ⌜ (n ≤ 16) × (j < 128) × (i < 16) ⌝ }
     ensures { λ _. ⌜ now (out .exit) ≡ packed (modelBits n j + 16 + i * 12) (marksPart (columnIn (now (frame .entry))) (marksIn (now (marks .entry)) n) j i) (now (out .entry)) ⌝ }
 {
-    let at = model_bits(n, j) + 16 + i * 12;
+    let need = model_bits(n, j) + 16 + i * 12;
+    let effect = need + 6;
     let row = j * (n * 2) + i * 2;
-    put_field(out, at, 6, place(marks, row));
-    put_field(out, at + 6, 6, place(marks, row + 1));
+    put_field(out, need, 6, place(marks, row));
+    put_field(out, effect, 6, place(marks, row + 1));
 }
 
 fn put_step(out: &mut [u8], frame: &[u8], costs: &[u16], marks: &[u8], n: usize, j: usize)
