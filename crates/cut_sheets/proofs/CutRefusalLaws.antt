@@ -6,22 +6,22 @@ use mathlib.Core.Logic.{_↔_}
 use mathlib.Core.List.{List, [], _∷_, _++_}
 use Rattle.task.specs.Task.{Task}
 use Rattle.fields.specs.Judging.{checksOf}
-use Rattle.fields.proofs.RefusalLaws.{Numbered, EntriesNumbered, GivenBy, numbered-append, checks-numbered, entries-append, entries-each, exactly-when}
+use Rattle.fields.proofs.ExactLaws.{FirstToApply, Numbered, NumberedFields, numbered-append, fields-append, fields-each, numbered-checks, applies-first, first-refuses}
 use Rattle.sheets.specs.ModelSheet.{fillPart}
 use Rattle.cut_sheets.specs.CutPart.{CutSource, cutHeader, cutPart, cutFields, cutEntries, ofCutPart, cutFollows, cutChecks, judgeCuts}
 use Rattle.cut_sheets.proofs.CutPartLaws.{H, C, F}
 
-pub entries-numbered : (t : Task) (p : CutSource) (n : ℕ) → EntriesNumbered (cutFields t p n)
+pub numbered-fields : (t : Task) (p : CutSource) (n : ℕ) → NumberedFields (cutFields t p n)
 unfolding cutFields cutHeader cutPart fillPart
-entries-numbered t p n =
-    entries-append (H t p n) (C t p n ++ F t p n) (λ z. omega arith, (λ z. omega arith, tt))
-    (entries-append (C t p n) (F t p n) (entries-each n (cutPart t (p .cut)) (λ i. (λ z. omega arith, (λ z. omega arith, (λ z. omega arith, tt))))) (λ z. omega arith, tt))
+numbered-fields t p n =
+    fields-append (H t p n) (C t p n ++ F t p n) (λ z. omega arith, (λ z. omega arith, tt))
+    (fields-append (C t p n) (F t p n) (fields-each (cutPart t (p .cut)) n (λ i. (λ z. omega arith, (λ z. omega arith, (λ z. omega arith, tt))))) (λ z. omega arith, tt))
 
-pub part-numbered : (t : Task) (s : List ℕ) → Numbered (cutChecks t s)
+pub numbered-part : (t : Task) (s : List ℕ) → Numbered (cutChecks t s)
 unfolding cutChecks cutEntries
-part-numbered t s =
-    numbered-append (checksOf (cutEntries t (ofCutPart s))) (cutFollows s ∷ []) (checks-numbered (cutEntries t (ofCutPart s)) (entries-numbered t (ofCutPart s) _)) (λ z. omega arith, tt)
+numbered-part t s =
+    numbered-append (checksOf (cutEntries t (ofCutPart s))) (cutFollows s ∷ []) (numbered-checks (cutEntries t (ofCutPart s)) (numbered-fields t (ofCutPart s) _)) (λ z. omega arith, tt)
 
-pub part-refused : (t : Task) (s : List ℕ) (n : ℕ) → (n ≡ 0 → ⊥) → (judgeCuts t s ≡ n) ↔ GivenBy (cutChecks t s) n
+pub part-refused : (t : Task) (s : List ℕ) (n : ℕ) → (n ≡ 0 → ⊥) → (judgeCuts t s ≡ n) ↔ FirstToApply (cutChecks t s) n
 unfolding judgeCuts
-part-refused t s n z = exactly-when (cutChecks t s) n (part-numbered t s) z
+part-refused t s n z = (applies-first (cutChecks t s) (numbered-part t s) n z, first-refuses (cutChecks t s) n z)

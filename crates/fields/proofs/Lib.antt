@@ -4,4 +4,4 @@ pub mod PartLaws
 pub mod JudgingLaws
 pub mod PackingLaws
 pub mod PlaceLaws
-pub mod RefusalLaws
+pub mod ExactLaws

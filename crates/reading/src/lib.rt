@@ -74,10 +74,11 @@ fn fill_pair(s: &[u8], n: usize, j: usize, i: usize, marks: &mut [u8])
     requires { ⌜ (n ≤ 16) × (j < 128) × (i < 16) × (j * (n * 2) + i * 2 + 2 ≤ length (now marks)) ⌝ }
     ensures { λ _. ⌜ now (marks .exit) ≡ puts (j * (n * 2) + i * 2) (markValues (marksOn (now (s .entry)) n) j i) (now (marks .entry)) ⌝ }
 {
-    let at = model_bits(n, j) + 16 + i * 12;
+    let need = model_bits(n, j) + 16 + i * 12;
+    let effect = need + 6;
     let place = j * (n * 2) + i * 2;
-    marks[place] = field(s, at, 6) as u8;
-    marks[place + 1] = field(s, at + 6, 6) as u8;
+    marks[place] = field(s, need, 6) as u8;
+    marks[place + 1] = field(s, effect, 6) as u8;
 }
 
 fn fill_step(s: &[u8], n: usize, j: usize, marks: &mut [u8])

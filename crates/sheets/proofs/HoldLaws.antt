@@ -63,13 +63,13 @@ pub record Reads (s : List ℕ) (p : Source) (n m : ℕ) : Type 0 where
 
 module _ (s : List ℕ) (p : Source) (n m : ℕ) where
   -- positions of the parts
-  at-columns : 0 + bitsIn (H p n m) ≡ 17
+  pub at-columns : 0 + bitsIn (H p n m) ≡ 17
   at-columns = omega (arith, header-bits p n m)
 
-  at-steps : 17 + bitsIn (C p n m) ≡ 17 + n * 17
+  pub at-steps : 17 + bitsIn (C p n m) ≡ 17 + n * 17
   at-steps = omega (arith, columns-bits p n m)
 
-  at-fill : 17 + n * 17 + bitsIn (S p n m) ≡ modelBits n m
+  pub at-fill : 17 + n * 17 + bitsIn (S p n m) ≡ modelBits n m
   unfolding modelBits
   at-fill = omega (arith, steps-bits p n m)
 

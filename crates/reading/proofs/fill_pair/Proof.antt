@@ -1,12 +1,12 @@
-use Prim.Native.Nat.{ℕ, _+_, _*_}
-use mathlib.Core.Path.{_≡_, ap, _∙_}
-use native.Mathlib.Omega.{arith}
-use lib.ListN.{set, length-set}
-use Rattle.sheets.specs.LentTables.{markValues}
-use Rattle.sheets.specs.ModelSheet.{marksOn, modelBits}
-use Rattle.fields.specs.Places.{puts}
-use Rattle.fields.proofs.FieldLaws.{field-lt}
 use Rattle.fields.specs.Bits.{fieldAt}
+use Rattle.fields.proofs.FieldLaws.{field-lt}
+use Rattle.fields.specs.Places.{puts}
+use Rattle.sheets.specs.ModelSheet.{marksOn, modelBits}
+use Rattle.sheets.specs.LentTables.{markValues}
+use lib.ListN.{set, length-set}
+use native.Mathlib.Omega.{arith}
+use mathlib.Core.Path.{_≡_, ap, _∙_}
+use Prim.Native.Nat.{ℕ, _+_, _*_}
 use borrow.Author.Needs.{needs}
 use Rattle.reading.proofs.fill_pair.Statement.{statement}
 use Rattle.reading.proofs.fill_pair.Tie as tie
@@ -15,71 +15,71 @@ use Rattle.reading.proofs.fill_pair.Lts as lts
 use Rattle.fields.proofs.field.field.Reads as field-reads
 use Rattle.sheets.proofs.model_bits.Reads as model-bits-reads
 
--- src/lib.rt:77:14
+-- src/lib.rt:77:16
 model-bits-requires : tie.Need-model-bits-requires
 model-bits-requires c κs = search needs
 
--- src/lib.rt:77:14
-add-at : tie.Need-add-at
-add-at c = search needs
+-- src/lib.rt:77:16
+add-need : tie.Need-add-need
+add-need c = search needs
 
--- src/lib.rt:77:38
-mul-at : tie.Need-mul-at
-mul-at c = search needs
+-- src/lib.rt:77:40
+mul-need : tie.Need-mul-need
+mul-need c = search needs
 
--- src/lib.rt:77:14
-add-at-2 : tie.Need-add-at-2
-add-at-2 c = search needs
+-- src/lib.rt:77:16
+add-need-2 : tie.Need-add-need-2
+add-need-2 c = search needs
 
--- src/lib.rt:78:22
+-- src/lib.rt:78:18
+add-effect : tie.Need-add-effect
+add-effect c = search needs
+
+-- src/lib.rt:79:22
 mul-place : tie.Need-mul-place
 mul-place c = search needs
 
--- src/lib.rt:78:17
+-- src/lib.rt:79:17
 mul-place-2 : tie.Need-mul-place-2
 mul-place-2 c = search needs
 
--- src/lib.rt:78:31
+-- src/lib.rt:79:31
 mul-place-3 : tie.Need-mul-place-3
 mul-place-3 c = search needs
 
--- src/lib.rt:78:17
+-- src/lib.rt:79:17
 add-place : tie.Need-add-place
 add-place c = search needs
 
--- src/lib.rt:79:20
+-- src/lib.rt:80:20
 field-requires : tie.Need-field-requires
 field-requires c κs = search needs
 
--- src/lib.rt:79:20
+-- src/lib.rt:80:20
 cast-marks : tie.Need-cast-marks
 cast-marks c =
     let a = c .before .before .before .before .args in
     omega (arith, field-lt (a .s .now) (c .before .model-bits .result + 16 + a .i * 12) 6)
 
--- src/lib.rt:79:5
+-- src/lib.rt:80:5
 slice-write-marks : tie.Need-slice-write-marks
 slice-write-marks c = search needs
 
--- src/lib.rt:80:33
-add-field : tie.Need-add-field
-add-field c = search needs
-
--- src/lib.rt:80:24
+-- src/lib.rt:81:24
 field-requires-2 : tie.Need-field-requires-2
 field-requires-2 c κs = search needs
 
--- src/lib.rt:80:24
+-- src/lib.rt:81:24
 cast-marks-2 : tie.Need-cast-marks-2
 cast-marks-2 c =
     let a = c .before .before .before .before .before .args in
     omega (arith, field-lt (a .s .now) (c .before .before .model-bits .result + 16 + a .i * 12 + 6) 6)
 
--- src/lib.rt:80:11
+-- src/lib.rt:81:11
 add-marks : tie.Need-add-marks
 add-marks c = search needs
 
--- src/lib.rt:80:5
+-- src/lib.rt:81:5
 slice-write-marks-2 : tie.Need-slice-write-marks-2
 slice-write-marks-2 c =
     simp length-set (omega arith)
@@ -103,9 +103,10 @@ fill-pair-spec =
     tie.close
     (tie.spec
     model-bits-requires
-    add-at
-    mul-at
-    add-at-2
+    add-need
+    mul-need
+    add-need-2
+    add-effect
     mul-place
     mul-place-2
     mul-place-3
@@ -113,7 +114,6 @@ fill-pair-spec =
     field-requires
     cast-marks
     slice-write-marks
-    add-field
     field-requires-2
     cast-marks-2
     add-marks

@@ -1,0 +1,84 @@
+-- 01, "Refusal numbers": a number is given exactly when its row applies and no earlier check does.
+use Prim.Native.Nat.{ℕ, zero, suc, _+_, _≤_, _<_, zero-le, suc-le-suc}
+use native.Mathlib.Nat.{le-of-suc-le-suc, not-suc-le-zero}
+use native.Mathlib.Omega.{arith}
+use mathlib.Core.Path.{_≡_, refl, sym, ap, _∙_}
+use mathlib.Core.Bool.{Bool, true, false}
+use mathlib.Core.List.{List, [], _∷_, _++_}
+use lib.ListN.{length, getD}
+use Rattle.fields.specs.Judging.{Entry, Check, check, pick, _then_, checksOf, refusal, each}
+use Rattle.fields.proofs.JudgingLaws.{stop, go, no-checks}
+
+abbrev pub noCheck : Check
+noCheck = check 0 false
+
+-- a check that applies with the number n, and before which none applies
+pub record FirstToApply (cs : List Check) (n : ℕ) : Type 0 where
+  pub place : ℕ
+  pub below : place < length cs
+  pub number : getD cs place noCheck .number ≡ n
+  pub applies : getD cs place noCheck .applies ≡ true
+  pub before : (k : ℕ) → k < place → getD cs k noCheck .applies ≡ false
+
+-- no check has the number 0, which is no refusal
+abbrev pub Numbered : List Check → Type 0
+Numbered [] = Unit {0}
+Numbered (c ∷ cs) = (c .number ≡ 0 → ⊥) × Numbered cs
+
+pub numbered-append : (a b : List Check) → Numbered a → Numbered b → Numbered (a ++ b)
+numbered-append [] b p q = q
+numbered-append (c ∷ a) b p q = (p .0, numbered-append a b (p .1) q)
+
+-- fields whose bad values have a number
+abbrev pub NumberedFields : List Entry → Type 0
+NumberedFields [] = Unit {0}
+NumberedFields (e ∷ es) = (e .number ≡ 0 → ⊥) × NumberedFields es
+
+pub fields-append : (a b : List Entry) → NumberedFields a → NumberedFields b → NumberedFields (a ++ b)
+fields-append [] b p q = q
+fields-append (e ∷ a) b p q = (p .0, fields-append a b (p .1) q)
+
+pub fields-each : (f : ℕ → List Entry) (n : ℕ) → ((i : ℕ) → NumberedFields (f i)) → NumberedFields (each n f)
+unfolding each
+fields-each f zero h = tt
+fields-each f (suc n) h = fields-append (each n f) (f n) (fields-each f n h) (h n)
+
+pub numbered-checks : (es : List Entry) → NumberedFields es → Numbered (checksOf es)
+unfolding checksOf
+numbered-checks [] p = tt
+numbered-checks (e ∷ es) p = (λ z. omega arith, (p .0, numbered-checks es (p .1)))
+
+-- ---- one way
+first-applies : (c : Check) (cs : List Check) (n : ℕ) → (c .number ≡ 0 → ⊥) → c .applies ≡ true → refusal (c ∷ cs) ≡ n → c .number ≡ n
+unfolding refusal
+first-applies c cs n z h e = sym (stop (c .number) (refusal cs) z) ∙ (rw h at e)
+
+first-passes : (c : Check) (cs : List Check) → c .applies ≡ false → refusal (c ∷ cs) ≡ refusal cs
+unfolding refusal
+first-passes c cs h = rw h (go 0 (refusal cs) refl)
+
+later : (c : Check) (cs : List Check) (n : ℕ) → c .applies ≡ false → FirstToApply cs n → FirstToApply (c ∷ cs) n
+later c cs n h r =
+    record { place = suc (r .place); below = suc-le-suc (r .below); number = r .number; applies = r .applies; before = before-later }
+  where
+    before-later : (k : ℕ) → k < suc (r .place) → getD (c ∷ cs) k noCheck .applies ≡ false
+    before-later zero l = h
+    before-later (suc k) l = r .before k (le-of-suc-le-suc l)
+
+pub applies-first : (cs : List Check) → Numbered cs → (n : ℕ) → (n ≡ 0 → ⊥) → refusal cs ≡ n → FirstToApply cs n
+applies-first [] p n z e = absurd (z (sym e ∙ sym no-checks))
+applies-first (c ∷ cs) p n z e = split (c .applies) refl (λ h. applies-first cs (p .1) n z (sym (first-passes c cs h) ∙ e))
+  where
+    split : (b : Bool) → c .applies ≡ b → (c .applies ≡ false → FirstToApply cs n) → FirstToApply (c ∷ cs) n
+    split true h ih = record { place = 0; below = suc-le-suc zero-le; number = first-applies c cs n (p .0) h e; applies = h; before = λ k l. absurd (not-suc-le-zero l) }
+    split false h ih = later c cs n h (ih h)
+
+-- ---- the other way
+found : (cs : List Check) (k n : ℕ) → (n ≡ 0 → ⊥) → k < length cs → getD cs k noCheck .number ≡ n → getD cs k noCheck .applies ≡ true → ((j : ℕ) → j < k → getD cs j noCheck .applies ≡ false) → refusal cs ≡ n
+unfolding refusal
+found [] k n z l e h b = absurd (not-suc-le-zero l)
+found (c ∷ cs) zero n z l e h b = rw (h, e) (stop n (refusal cs) z)
+found (c ∷ cs) (suc k) n z l e h b = first-passes c cs (b 0 (omega arith)) ∙ found cs k n z (le-of-suc-le-suc l) e h (λ j q. b (suc j) (suc-le-suc q))
+
+pub first-refuses : (cs : List Check) (n : ℕ) → (n ≡ 0 → ⊥) → FirstToApply cs n → refusal cs ≡ n
+first-refuses cs n z r = found cs (r .place) n z (r .below) (r .number) (r .applies) (r .before)

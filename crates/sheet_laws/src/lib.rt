@@ -1,0 +1,1 @@
+// What holds of model sheets, read and written: no function, only laws.

@@ -1,0 +1,90 @@
+use Prim.Native.Nat.{ℕ, _-_, _≤_}
+use native.Mathlib.Omega.{arith}
+use mathlib.Core.Path.{_≡_, ap, _∙_}
+use Rattle.fields.proofs.FieldLaws.{field-lt}
+use Rattle.fields.specs.Bits.{fieldAt}
+use Rattle.task.specs.Loops.{tab, over}
+use Rattle.sheets.specs.Holding.{unused}
+use Rattle.unpack.specs.Unpacking.{tenthsOn}
+use Rattle.unpack.proofs.UnpackLaws.{begun, grown, ended}
+use borrow.Author.Needs.{needs}
+use Rattle.unpack.proofs.costs.Statement.{statement}
+use Rattle.unpack.proofs.costs.Tie as tie
+use Rattle.unpack.proofs.costs.Reads as reads
+use Rattle.unpack.proofs.costs.Lts as lts
+use Rattle.fields.proofs.field.field.Reads as field-reads
+use Rattle.sheets.proofs.model_bits.Reads as model-bits-reads
+
+abbrev Inv-loop : tie.InvT-loop
+Inv-loop s n m t₀ j₀ t j =
+    (j ≤ m) × (t ≡ over (tab j (tenthsOn s n)) (unused 128 0))
+
+abbrev μ-loop : tie.MeasureT-loop
+μ-loop s n m t₀ j₀ t j =
+    m - j
+
+-- src/lib.rt:68:5
+loop-holds : tie.Need-loop-holds Inv-loop μ-loop
+unfolding unused
+loop-holds c =
+    (omega arith, begun _ 128 0)
+
+-- src/lib.rt:69:25
+model-bits-requires : tie.Need-model-bits-requires Inv-loop μ-loop
+model-bits-requires c κs = search needs
+
+-- src/lib.rt:69:16
+field-requires : tie.Need-field-requires Inv-loop μ-loop
+field-requires c κs = search needs
+
+-- src/lib.rt:69:16
+cast-t : tie.Need-cast-t Inv-loop μ-loop
+cast-t c =
+    omega (arith, field-lt (c .before .before .before .before .before .args .s .now) (c .before .model-bits .result) 16)
+
+-- src/lib.rt:69:9
+mul-t : tie.Need-mul-t Inv-loop μ-loop
+mul-t c = search needs
+
+-- src/lib.rt:69:9
+array-write-t : tie.Need-array-write-t Inv-loop μ-loop
+array-write-t c = search needs
+
+-- src/lib.rt:70:9
+add-j : tie.Need-add-j Inv-loop μ-loop
+add-j c = search needs
+
+-- src/lib.rt:68:5
+loop-less : tie.Need-loop-less Inv-loop μ-loop
+loop-less c = search needs
+
+-- src/lib.rt:68:5
+loop-again : tie.Need-loop-again Inv-loop μ-loop
+unfolding tenthsOn
+loop-again c =
+    let a = c .before .before .before .before .before .args in
+    let l = c .before .before .before .loop in
+    (omega arith, grown (tenthsOn (a .s .now) (a .n)) 128 0 (l .j) (omega arith) (l .inv .1) (c .field .ensures ∙ ap (λ (x : ℕ). fieldAt (a .s .now) x 16) (c .before .model-bits .ensures .0)))
+
+-- src/lib.rt:62:1
+returns : tie.Need-returns Inv-loop μ-loop
+returns c =
+    let l = c .before .loop in
+    ended _ 128 0 (l .j) (c .before .before .before .args .m) (omega arith) (omega arith) (l .inv .1)
+
+pub costs-spec : {M : Type 1} → statement M
+costs-spec =
+    tie.close
+    (tie.spec
+    Inv-loop
+    μ-loop
+    loop-holds
+    model-bits-requires
+    field-requires
+    cast-t
+    mul-t
+    array-write-t
+    add-j
+    loop-less
+    loop-again
+    returns)

@@ -1,0 +1,16 @@
+use mathlib.Core.Path.{refl}
+use Rattle.sheets.specs.Holding.{noModel, unused}
+use borrow.Author.Needs.{needs}
+use Rattle.unpack.proofs.no_model.Statement.{statement}
+use Rattle.unpack.proofs.no_model.Tie as tie
+use Rattle.unpack.proofs.no_model.Reads as reads
+use Rattle.unpack.proofs.no_model.Lts as lts
+
+-- src/lib.rt:102:1
+returns : tie.Need-returns
+unfolding noModel unused
+returns c =
+    refl
+
+pub no-model-spec : {M : Type 1} → statement M
+no-model-spec = tie.close (tie.spec returns)

@@ -1,0 +1,93 @@
+use Prim.Native.Nat.{_+_, _*_, _-_, _≤_}
+use native.Mathlib.Omega.{arith}
+use mathlib.Core.Path.{_≡_, ap}
+use Rattle.fields.proofs.FieldLaws.{field-lt}
+use Rattle.task.specs.Task.{position}
+use Rattle.task.specs.Loops.{tab, over}
+use Rattle.sheets.specs.Holding.{unused}
+use Rattle.unpack.specs.Unpacking.{startOn}
+use Rattle.unpack.proofs.UnpackLaws.{begun, grown, ended}
+use borrow.Author.Needs.{needs}
+use Rattle.unpack.proofs.starts.Statement.{statement}
+use Rattle.unpack.proofs.starts.Tie as tie
+use Rattle.unpack.proofs.starts.Reads as reads
+use Rattle.unpack.proofs.starts.Lts as lts
+use Rattle.fields.proofs.field.field.Reads as field-reads
+
+abbrev Inv-loop : tie.InvT-loop
+Inv-loop s n t₀ i₀ t i =
+    (i ≤ n) × (t ≡ over (tab i (startOn s)) (unused 16 (position 0)))
+
+abbrev μ-loop : tie.MeasureT-loop
+μ-loop s n t₀ i₀ t i =
+    n - i
+
+-- src/lib.rt:42:5
+loop-holds : tie.Need-loop-holds Inv-loop μ-loop
+unfolding unused
+loop-holds c =
+    (omega arith, begun _ 16 (position 0))
+
+-- src/lib.rt:43:39
+mul-field : tie.Need-mul-field Inv-loop μ-loop
+mul-field c = search needs
+
+-- src/lib.rt:43:34
+add-field : tie.Need-add-field Inv-loop μ-loop
+add-field c = search needs
+
+-- src/lib.rt:43:34
+add-field-2 : tie.Need-add-field-2 Inv-loop μ-loop
+add-field-2 c = search needs
+
+-- src/lib.rt:43:25
+field-requires : tie.Need-field-requires Inv-loop μ-loop
+field-requires c κs = search needs
+
+-- src/lib.rt:43:25
+cast-t11 : tie.Need-cast-t11 Inv-loop μ-loop
+cast-t11 c =
+    omega (arith, field-lt (c .before .before .before .before .args .s .now) (17 + c .before .before .loop .i * 17 + 6) 5)
+
+-- src/lib.rt:43:9
+array-set-from-t : tie.Need-array-set-from-t Inv-loop μ-loop
+array-set-from-t c = search needs
+
+-- src/lib.rt:44:9
+add-i : tie.Need-add-i Inv-loop μ-loop
+add-i c = search needs
+
+-- src/lib.rt:42:5
+loop-less : tie.Need-loop-less Inv-loop μ-loop
+loop-less c = search needs
+
+-- src/lib.rt:42:5
+loop-again : tie.Need-loop-again Inv-loop μ-loop
+unfolding startOn
+loop-again c =
+    let l = c .before .before .loop in
+    (omega arith, grown (startOn (c .before .before .before .before .args .s .now)) 16 (position 0) (l .i) (omega arith) (l .inv .1) (ap position (c .field .ensures)))
+
+-- src/lib.rt:36:1
+returns : tie.Need-returns Inv-loop μ-loop
+returns c =
+    let l = c .before .loop in
+    ended _ 16 (position 0) (l .i) (c .before .before .before .args .n) (omega arith) (omega arith) (l .inv .1)
+
+pub starts-spec : {M : Type 1} → statement M
+starts-spec =
+    tie.close
+    (tie.spec
+    Inv-loop
+    μ-loop
+    loop-holds
+    mul-field
+    add-field
+    add-field-2
+    field-requires
+    cast-t11
+    array-set-from-t
+    add-i
+    loop-less
+    loop-again
+    returns)

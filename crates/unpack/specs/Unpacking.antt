@@ -1,0 +1,37 @@
+-- Reading a model sheet into the task's own tables, by value.
+use Prim.Native.Nat.{ℕ, _+_, _*_}
+use mathlib.Core.List.{List}
+use lib.Dec.{eqb}
+use Rattle.task.specs.declared.Model.{Model}
+use Rattle.task.specs.declared.Position.{Position}
+use Rattle.task.specs.declared.Mark.{Mark}
+use Rattle.task.specs.Task.{position}
+use Rattle.task.specs.Tables.{mark}
+use Rattle.fields.specs.Bits.{fieldAt}
+use Rattle.fields.specs.Judging.{pick}
+use Rattle.sheets.specs.ModelSheet.{modelBits, ofSheet, judgeSheet}
+use Rattle.sheets.specs.Holding.{modelOf, noModel}
+use Rattle.unpack.specs.declared.Read.{Read}
+
+abbrev pub answer : ℕ → Model → Read
+answer n m = record { code = n; model = m }
+
+-- the refusal, with a model of nothing, or 0 and the model of the sheet
+unfoldable pub unpacked : List ℕ → Read
+unpacked s = pick (eqb (judgeSheet s) 0) (answer 0 (modelOf (ofSheet s))) (answer (judgeSheet s) noModel)
+
+-- ---- what the parts of the code put into each table
+unfoldable pub sizeOn : List ℕ → ℕ → ℕ
+sizeOn s i = fieldAt s (17 + i * 17) 6
+
+unfoldable pub startOn : List ℕ → ℕ → Position
+startOn s i = position (fieldAt s (17 + i * 17 + 6) 5)
+
+unfoldable pub goalOn : List ℕ → ℕ → Mark
+goalOn s i = mark (fieldAt s (17 + i * 17 + 6 + 5) 6)
+
+unfoldable pub tenthsOn : List ℕ → ℕ → ℕ → ℕ
+tenthsOn s n j = fieldAt s (modelBits n j) 16
+
+unfoldable pub markOn : List ℕ → ℕ → ℕ → ℕ → ℕ → ℕ
+markOn s n skip j i = fieldAt s (modelBits n j + 16 + i * 12 + skip) 6

@@ -1,0 +1,94 @@
+use lib.ListN.{length}
+use Rattle.sheets.proofs.HoldLaws.{marks-bits}
+use Rattle.fields.proofs.PackingLaws.{packed-none, packed-more, packed-end, packed-length}
+use Prim.Native.Nat.{_+_, _-_, _≤_}
+use native.Mathlib.Omega.{arith}
+use mathlib.Core.Path.{_≡_, refl, ap, _∙_}
+use Rattle.fields.specs.Judging.{each}
+use Rattle.sheets.specs.LentTables.{columnIn, marksIn}
+use Rattle.sheets.specs.ModelSheet.{modelBits, marksPart, stepPart}
+use Rattle.fields.specs.Packing.{packed}
+use Rattle.writing.proofs.WritingLaws.{put-next}
+use borrow.Author.Needs.{needs}
+use Rattle.writing.proofs.put.put_step.Statement.{statement}
+use Rattle.writing.proofs.put.put_step.Tie as tie
+use Rattle.writing.proofs.put.put_step.Reads as reads
+use Rattle.writing.proofs.put.put_step.Lts as lts
+use Rattle.fields.proofs.place.wide_place.Reads as wide-place-reads
+use Rattle.fields.proofs.put.put_field.Reads as put-field-reads
+use Rattle.sheets.proofs.model_bits.Reads as model-bits-reads
+use Rattle.writing.proofs.put.put_marks.Reads as put-marks-reads
+
+abbrev Inv-loop : tie.InvT-loop
+Inv-loop out₀ frame costs marks n j i₀ out i =
+    (i ≤ n) × (out ≡ packed (modelBits n j + 16) (each i (marksPart (columnIn frame) (marksIn marks n) j)) out₀)
+
+abbrev μ-loop : tie.MeasureT-loop
+μ-loop out₀ frame costs marks n j i₀ out i =
+    n - i
+
+-- src/put.rt:58:20
+model-bits-requires : tie.Need-model-bits-requires Inv-loop μ-loop
+model-bits-requires c κs = search needs
+
+-- src/put.rt:58:42
+wide-place-requires : tie.Need-wide-place-requires Inv-loop μ-loop
+wide-place-requires c κs = search needs
+
+-- src/put.rt:58:5
+put-field-requires : tie.Need-put-field-requires Inv-loop μ-loop
+put-field-requires c κs = search needs
+
+-- src/put.rt:60:5
+loop-holds : tie.Need-loop-holds Inv-loop μ-loop
+loop-holds c =
+    (omega arith, packed-none _ _ _)
+
+-- src/put.rt:61:9
+put-marks-requires : tie.Need-put-marks-requires Inv-loop μ-loop
+put-marks-requires c κs = search needs
+
+-- src/put.rt:62:9
+add-i : tie.Need-add-i Inv-loop μ-loop
+add-i c = search needs
+
+-- src/put.rt:60:5
+loop-less : tie.Need-loop-less Inv-loop μ-loop
+loop-less c = search needs
+
+-- src/put.rt:60:5
+loop-again : tie.Need-loop-again Inv-loop μ-loop
+loop-again c =
+    let a = c .before .before .before .before .before .before .before .before .before .before .before .before .before .before .before .before .args in
+    let l = c .before .before .before .before .before .loop in
+    (omega arith, c .before .before .put-marks .ensures ∙ packed-more (marksPart (columnIn (a .frame .now)) (marksIn (a .marks .now) (a .n)) (a .j)) 12 (marks-bits (columnIn (a .frame .now)) (marksIn (a .marks .now) (a .n)) (a .j)) (modelBits (a .n) (a .j) + 16) (l .i) _ (l .inv .1))
+
+-- src/put.rt:54:1
+same-length : tie.Need-same-length Inv-loop μ-loop
+same-length c =
+    ap length (c .before .loop .inv .1) ∙ packed-length _ _ _ ∙ c .before .before .before .before .put-field .kept .0
+
+-- src/put.rt:54:1
+returns : tie.Need-returns Inv-loop μ-loop
+unfolding packed stepPart
+returns c =
+    let a = c .before .before .before .before .before .before .before .before .before .before .before .before .args in
+    let l = c .before .loop in
+    packed-end (modelBits (a .n) (a .j) + 16) (marksPart (columnIn (a .frame .now)) (marksIn (a .marks .now) (a .n)) (a .j)) _ (l .i) (a .n) (omega arith) (omega arith) (l .inv .1) ∙ ap (packed (modelBits (a .n) (a .j) + 16) (each (a .n) (marksPart (columnIn (a .frame .now)) (marksIn (a .marks .now) (a .n)) (a .j)))) (put-next 16 (c .before .before .before .before .put-field .ensures) (c .before .before .before .before .before .before .model-bits .ensures .0) (c .before .before .before .before .before .wide-place .ensures) refl)
+
+pub put-step-spec : {M : Type 1} → statement M
+put-step-spec =
+    tie.close
+    (tie.spec
+    Inv-loop
+    μ-loop
+    model-bits-requires
+    wide-place-requires
+    put-field-requires
+    loop-holds
+    put-marks-requires
+    add-i
+    loop-less
+    loop-again
+    same-length
+    returns)

@@ -1,0 +1,74 @@
+use lib.ListN.{length}
+use Rattle.sheets.proofs.HoldLaws.{step-bits}
+use Rattle.fields.proofs.PackingLaws.{packed-none, packed-more, packed-end, packed-length}
+use Prim.Native.Nat.{_+_, _*_, _-_, _≤_}
+use native.Mathlib.Omega.{arith}
+use mathlib.Core.Path.{_≡_, ap, _∙_}
+use Rattle.fields.specs.Judging.{inTable, each}
+use Rattle.sheets.specs.LentTables.{columnIn, marksIn}
+use Rattle.sheets.specs.ModelSheet.{modelBits, stepPart}
+use Rattle.fields.specs.Packing.{packed}
+use borrow.Author.Needs.{needs}
+use Rattle.writing.proofs.put.put_steps.Statement.{statement}
+use Rattle.writing.proofs.put.put_steps.Tie as tie
+use Rattle.writing.proofs.put.put_steps.Reads as reads
+use Rattle.writing.proofs.put.put_steps.Lts as lts
+use Rattle.writing.proofs.put.put_step.Reads as put-step-reads
+
+abbrev Inv-loop : tie.InvT-loop
+Inv-loop out₀ frame costs marks n m j₀ out j =
+    (j ≤ m) × (out ≡ packed (17 + n * 17) (each j (stepPart (columnIn frame) (inTable costs) (marksIn marks n) n)) out₀)
+
+abbrev μ-loop : tie.MeasureT-loop
+μ-loop out₀ frame costs marks n m j₀ out j =
+    m - j
+
+-- src/put.rt:71:5
+loop-holds : tie.Need-loop-holds Inv-loop μ-loop
+loop-holds c =
+    (omega arith, packed-none _ _ _)
+
+-- src/put.rt:72:9
+put-step-requires : tie.Need-put-step-requires Inv-loop μ-loop
+put-step-requires c κs = search needs
+
+-- src/put.rt:73:9
+add-j : tie.Need-add-j Inv-loop μ-loop
+add-j c = search needs
+
+-- src/put.rt:71:5
+loop-less : tie.Need-loop-less Inv-loop μ-loop
+loop-less c = search needs
+
+-- src/put.rt:71:5
+loop-again : tie.Need-loop-again Inv-loop μ-loop
+unfolding modelBits
+loop-again c =
+    let a = c .before .before .before .before .before .before .before .before .before .before .args in
+    let l = c .before .before .before .before .before .loop in
+    (omega arith, c .before .before .put-step .ensures ∙ packed-more (stepPart (columnIn (a .frame .now)) (inTable (a .costs .now)) (marksIn (a .marks .now) (a .n)) (a .n)) (16 + a .n * 12) (step-bits (columnIn (a .frame .now)) (inTable (a .costs .now)) (marksIn (a .marks .now) (a .n)) (a .n)) (17 + a .n * 17) (l .j) (a .out .now) (l .inv .1))
+
+-- src/put.rt:66:1
+same-length : tie.Need-same-length Inv-loop μ-loop
+same-length c =
+    ap length (c .before .loop .inv .1) ∙ packed-length _ _ _
+
+-- src/put.rt:66:1
+returns : tie.Need-returns Inv-loop μ-loop
+returns c =
+    let l = c .before .loop in
+    packed-end _ _ _ (l .j) (c .before .before .before .before .before .before .args .m) (omega arith) (omega arith) (l .inv .1)
+
+pub put-steps-spec : {M : Type 1} → statement M
+put-steps-spec =
+    tie.close
+    (tie.spec
+    Inv-loop
+    μ-loop
+    loop-holds
+    put-step-requires
+    add-j
+    loop-less
+    loop-again
+    same-length
+    returns)

@@ -1,0 +1,70 @@
+use mathlib.Core.Path.{sym, ap, _∙_}
+use native.Mathlib.Omega.{arith}
+use Rattle.sheets.specs.LentTables.{ofTables}
+use Rattle.fields.specs.Packing.{bytesFor}
+use Rattle.writing.proofs.WritingLaws.{fields-refused, room-refused, put-written, given-fine}
+use borrow.Author.Needs.{needs}
+use Rattle.writing.proofs.write.write_model.Statement.{statement}
+use Rattle.writing.proofs.write.write_model.Tie as tie
+use Rattle.writing.proofs.write.write_model.Reads as reads
+use Rattle.writing.proofs.write.write_model.Lts as lts
+use Rattle.sheets.proofs.model_bits.Reads as model-bits-reads
+use Rattle.writing.proofs.given.judge_given.Reads as judge-given-reads
+use Rattle.writing.proofs.put.put_sheet.Reads as put-sheet-reads
+
+-- src/write.rt:19:9
+judge-given-requires : tie.Need-judge-given-requires
+judge-given-requires c κs = search needs
+
+-- src/write.rt:21:9
+returns : tie.Need-returns
+returns c =
+    let a = c .before .before .before .before .before .before .args in
+    fields-refused (ofTables (a .columns) (a .steps) (a .frame .now) (a .costs .now) (a .marks .now)) (a .sheet .now) (c .before .judge-given .ensures) (c .if1 .taken)
+
+-- src/write.rt:23:18
+model-bits-requires : tie.Need-model-bits-requires
+model-bits-requires c κs =
+    let a = c .before .before .before .before .before .before .args in
+    given-fine (a .columns) (a .steps) (a .frame .now) (a .costs .now) (a .marks .now) (sym (c .before .judge-given .ensures) ∙ c .if1 .left)
+
+-- src/write.rt:23:18
+add-bytes : tie.Need-add-bytes
+add-bytes c = search needs
+
+-- src/write.rt:25:9
+returns-2 : tie.Need-returns-2
+unfolding ofTables bytesFor
+returns-2 c =
+    let a = c .before .before .before .before .before .before .before .before .args in
+    room-refused (ofTables (a .columns) (a .steps) (a .frame .now) (a .costs .now) (a .marks .now)) (a .sheet .now) (c .before .before .before .judge-given .ensures) (c .before .before .if1 .left) (omega (arith, c .before .model-bits .ensures .0))
+
+-- src/write.rt:27:5
+put-sheet-requires : tie.Need-put-sheet-requires
+put-sheet-requires c κs =
+    let a = c .before .before .before .before .before .before .before .before .before .args in
+    given-fine (a .columns) (a .steps) (a .frame .now) (a .costs .now) (a .marks .now) (sym (c .before .before .before .before .judge-given .ensures) ∙ c .before .before .before .if1 .left)
+
+-- src/write.rt:16:1
+same-length : tie.Need-same-length
+same-length c = search needs
+
+-- src/write.rt:16:1
+returns-3 : tie.Need-returns-3
+unfolding ofTables bytesFor
+returns-3 c =
+    let a = c .before .before .before .before .before .before .before .before .before .before .before .before .args in
+    put-written (ofTables (a .columns) (a .steps) (a .frame .now) (a .costs .now) (a .marks .now)) (a .sheet .now) (c .before .before .before .before .before .before .before .judge-given .ensures) (c .before .before .before .before .before .before .if1 .left) (λ j l. omega (arith, c .before .before .before .before .before .before .before .before .before .before .shared-slice-known2 .given j)) (λ i. omega (arith, c .before .before .before .before .before .before .before .before .slice-known .given i)) (ap bytesFor (c .before .before .before .before .before .model-bits .ensures .0)) (omega (arith, c .before .before .before .before .before .model-bits .ensures .0, c .before .before .before .before .if2 .left)) (c .before .before .put-sheet .ensures)
+
+pub write-model-spec : {M : Type 1} → statement M
+write-model-spec =
+    tie.close
+    (tie.spec
+    judge-given-requires
+    returns
+    model-bits-requires
+    add-bytes
+    returns-2
+    put-sheet-requires
+    same-length
+    returns-3)

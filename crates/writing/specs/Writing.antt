@@ -1,0 +1,29 @@
+-- Writing a model sheet from lent tables: the answer, and what the lent bytes then hold.
+use Prim.Native.Nat.{ℕ}
+use mathlib.Core.List.{List}
+use lib.Dec.{eqb}
+use Rattle.task.specs.Loops.{over}
+use Rattle.fields.specs.Judging.{pick, refusal}
+use Rattle.fields.specs.Packing.{sheetOf}
+use Rattle.sheets.specs.ModelSheet.{Source, columnsIn, stepsIn, entries, modelBytes}
+use Rattle.sheets.specs.LentTables.{writeChecks}
+use Rattle.writing.specs.declared.write.SheetWritten.{SheetWritten}
+use Rattle.writing.specs.declared.write.SheetWritten.the-variants.{Bytes, Refused}
+
+-- an answer's refusal number; 0 for none
+unfoldable pub number : SheetWritten → ℕ
+number (Bytes n) = 0
+number (Refused n) = n
+
+pub record Outcome : Type 0 where
+  pub answer : SheetWritten
+  pub sheet : List ℕ
+
+abbrev pub outcome : SheetWritten → List ℕ → Outcome
+outcome a sheet = record { answer = a; sheet = sheet }
+
+-- a refusal returns only its number and changes nothing lent; else the bytes are the sheet, and those past it stay
+unfoldable pub writing : Source → List ℕ → Outcome
+writing p sheet =
+    let n = refusal (writeChecks p sheet) in
+    pick (eqb n 0) (outcome (Bytes (modelBytes (columnsIn p) (stepsIn p))) (over (sheetOf (entries p)) sheet)) (outcome (Refused n) sheet)

@@ -1,0 +1,36 @@
+// Writes a model from lent tables as a sheet.
+ghost use mathlib.Core.Path.{_≡_};
+ghost use Rattle.sheets.specs.LentTables.{ofTables};
+ghost use Rattle.writing.specs.Writing.{outcome, writing};
+use crate::given::judge_given;
+use crate::put::put_sheet;
+use sheets::model_bits;
+
+// The number of bytes written, or a refusal.
+pub enum SheetWritten {
+    Bytes(usize),
+    Refused(u8),
+}
+
+// Writes the sheet of a model of so many columns and steps, from tables as `read_model` fills them.
+pub fn write_model(
+    columns: usize,
+    steps: usize,
+    frame: &[u8],
+    costs: &[u16],
+    marks: &[u8],
+    sheet: &mut [u8],
+) -> SheetWritten
+    ensures { λ r. ⌜ outcome r (now (sheet .exit)) ≡ writing (ofTables columns steps (now (frame .entry)) (now (costs .entry)) (now (marks .entry))) (now (sheet .entry)) ⌝ }
+{
+    let a = judge_given(columns, steps, frame, costs, marks);
+    if a != 0 {
+        return SheetWritten::Refused(a);
+    }
+    let bytes = (model_bits(columns, steps) + 7) / 8;
+    if sheet.len() < bytes {
+        return SheetWritten::Refused(8);
+    }
+    put_sheet(sheet, columns, steps, frame, costs, marks);
+    SheetWritten::Bytes(bytes)
+}
