@@ -3,7 +3,7 @@
 use Prim.Native.Nat.{ℕ, _+_, _-_, _*_, _^_, _≤_, _<_}
 use native.Mathlib.Omega.{arith}
 use mathlib.Core.Path.{_≡_, refl, sym, ap, ap₂, _∙_}
-use mathlib.Core.Bool.{true, not}
+use mathlib.Core.Bool.{true, false, not}
 use mathlib.Core.List.{List, [], _∷_, _++_}
 use lib.ListN.{length, getD, take, drop, length-append, take-append-drop, List·getD-append}
 use lib.Dec.{eqb, leb, ltb}
@@ -13,7 +13,7 @@ use Rattle.task.specs.Task.{Task, Accepted}
 use Rattle.task.proofs.LoopLaws.{and-left, and-right, and-both, all-at, all-intro}
 use Rattle.fields.specs.Judging.{Entry, judged, each, refusal, onSheet, inTable, given}
 use Rattle.fields.specs.Packing.{bitsIn, sheetOf}
-use Rattle.fields.proofs.JudgingLaws.{go, neither, last-both, last-went, passed, passes, refusal-append}
+use Rattle.fields.proofs.JudgingLaws.{go, stop, neither, last-both, last-stopped, last-went, applies, passed, passes, refusal-append}
 use Rattle.fields.proofs.PartLaws.{field-take}
 use Rattle.fields.proofs.PlaceLaws.{each-length, each-at}
 use Rattle.fields.proofs.PutLaws.{Bytes}
@@ -103,6 +103,21 @@ module _ (model s : List ℕ) where
       let inner : judged (entries (ofSheet s)) ≡ 0 = ap judged (inner-entries model ok s front) ∙ sheet-fine model ok .0 in
       refusal-append (sheetChecks model) _ ∙ go (refusal (sheetChecks model)) _ ok
       ∙ sym (last-went (entries (ofSheet s)) _ (sym inner) refl (passes 10 (not (atFront model s)) (cutChecks t (tailOf s)) (rw front) refl))
+
+  -- a refusal of the given model, of the inner one, and 10
+  pub model-refused : {r : ℕ} → r ≡ judgeSheet model → (r ≡ 0 → ⊥) → r ≡ refusal (cutSheetChecks model s)
+  unfolding cutSheetChecks judgeSheet
+  model-refused e z = e ∙ sym (refusal-append (sheetChecks model) _ ∙ stop (refusal (sheetChecks model)) _ (λ q. z (e ∙ q)))
+
+  pub inner-refused : {r : ℕ} → judgeSheet model ≡ 0 → r ≡ judgePart s → (r ≡ 0 → ⊥) → r ≡ refusal (cutSheetChecks model s)
+  unfolding cutSheetChecks judgeSheet judgePart
+  inner-refused ok e z = last-stopped (entries (ofSheet s)) _ e z ∙ sym (refusal-append (sheetChecks model) _ ∙ go (refusal (sheetChecks model)) _ ok)
+
+  pub ten-refused : judgeSheet model ≡ 0 → judgePart s ≡ 0 → atFront model s ≡ false → 10 ≡ refusal (cutSheetChecks model s)
+  unfolding cutSheetChecks judgeSheet judgePart
+  ten-refused ok inner h =
+      last-went (entries (ofSheet s)) _ (sym inner) refl (applies 10 (not (atFront model s)) (cutChecks t (tailOf s)) (ap not h) (λ z. omega arith))
+      ∙ sym (refusal-append (sheetChecks model) _ ∙ go (refusal (sheetChecks model)) _ ok)
 
   -- an accepted cut sheet: an accepted model at its front, and an accepted cut part
   pub sheet-accepted : refusal (cutSheetChecks model s) ≡ 0 → (judgeSheet model ≡ 0) × (atFront model s ≡ true) × (judgeCuts t (tailOf s) ≡ 0)

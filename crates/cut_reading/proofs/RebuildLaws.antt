@@ -1,0 +1,182 @@
+-- Laws for the code that reads a cut sheet.
+use Prim.Native.Nat.{ℕ, _+_, _-_, _*_, _≤_, _<_}
+use native.Mathlib.Omega.{arith}
+use mathlib.Core.Path.{_≡_, refl, sym, ap, ap₂, _∙_, subst}
+use mathlib.Core.Bool.{Bool, true, false, _&&_}
+use mathlib.Core.List.{List, [], _∷_}
+use lib.Dec.{eqb, leb, ltb}
+use lib.ListN.{length, getD, take, drop, length-append, length-drop}
+use lib.Seq.{take-all}
+use borrow.Author.Tests.{le-leb, lt-leb, lt-ltb, le-ltb, eqb-true, eq-eqb, ne-eqb}
+use Rattle.task.specs.Loops.{all, tab, over}
+use Rattle.task.specs.Task.{Task, Accepted, columnCount, sizeOf}
+use Rattle.task.specs.Tables.{taskOf}
+use Rattle.task.proofs.LoopLaws.{and-both, all-more, all-fails}
+use Rattle.task.proofs.TaskLaws.{per-length}
+use Rattle.task.proofs.TableLaws.{columns-of}
+use Rattle.fields.specs.Judging.{pick, refusal, each}
+use Rattle.fields.specs.Places.{puts}
+use Rattle.fields.proofs.JudgingLaws.{stop, go, applies, passes, no-checks, refusal-append}
+use Rattle.fields.proofs.PlaceLaws.{each-length, puts-over}
+use Rattle.sheets.specs.LentTables.{tooFew}
+use Rattle.blocks.specs.Blocks.{every, whole, cutAll, blocksOf}
+use Rattle.blocks.specs.Flat.{blocksIn}
+use Rattle.blocks.proofs.FlatLaws.{first-made}
+use Rattle.sheets.specs.ModelSheet.{ofSheet, judgePart, judgeSheet}
+use Rattle.sheets.specs.Holding.{modelOf, noModel}
+use Rattle.unpack.specs.declared.Read.{Read}
+use Rattle.unpack.specs.Unpacking.{answer, unpacked}
+use Rattle.sheet_laws.proofs.Held.{read-task, read-accepted}
+use Rattle.cut_sheets.specs.CutPart.{CutFields, cutsNamed, cutOn, countOf, judgeCuts}
+use Rattle.cut_sheets.specs.CutSheet.{taskOn, tailOf, atFront, cutSheetChecks, cutValues, cutList, rebuildChecks}
+use Rattle.cut_sheets.specs.Judged.{Made, PartJudged}
+use Rattle.cut_sheets.proofs.CutSheetLaws.{tail-is, front-refusal, model-refused, inner-refused, ten-refused, front-take, sheet-accepted, values-length}
+use Rattle.cut_reading.specs.declared.CutsRebuilt.the-variants.{Cuts, Refused}
+use Rattle.cut_reading.specs.Rebuilding.{SheetJudged, outcome, rebuilding}
+
+-- ---- bytes at the front of others
+unfoldable pub sameTo : List ℕ → List ℕ → ℕ → Bool
+sameTo a s n = all n (λ i. eqb (getD a i 0) (getD s i 0))
+
+module _ (a s : List ℕ) where
+  pub same-none : sameTo a s 0 ≡ true
+  unfolding sameTo all
+  same-none = refl
+
+  pub same-more : (i : ℕ) → sameTo a s i ≡ true → getD a i 0 ≡ getD s i 0 → sameTo a s (i + 1) ≡ true
+  unfolding sameTo
+  same-more i h e = all-more i _ h (eq-eqb (getD a i 0) (getD s i 0) e)
+
+  pub front-short : length s < length a → false ≡ atFront a s
+  unfolding atFront
+  front-short h = rw (lt-leb (length a) (length s) h)
+
+  pub front-other : (i : ℕ) → i < length a → (getD a i 0 ≡ getD s i 0 → ⊥) → false ≡ atFront a s
+  unfolding atFront
+  front-other i h e = sym (and-false (leb (length a) (length s)) (all-fails (length a) _ i h (ne-eqb (getD a i 0) (getD s i 0) e)))
+    where
+      and-false : (b : Bool) {c : Bool} → c ≡ false → (b && c) ≡ false
+      and-false true e = e
+      and-false false e = refl
+
+  pub front-same : length a ≤ length s → sameTo a s (length a) ≡ true → true ≡ atFront a s
+  unfolding atFront sameTo
+  front-same h e = sym (and-both (le-leb (length a) (length s) h) e)
+
+-- a tail that is taken whole, as a slice from its middle on has it
+pub rest-all : (s : List ℕ) (n : ℕ) → take (length s - n) (drop n s) ≡ drop n s
+rest-all s n = take-all (length s - n) (drop n s) (simp length-drop (omega arith))
+
+-- ---- the given model
+module _ (m : List ℕ) {r : Read} (e : r ≡ unpacked m) where
+  pub read-code : r .code ≡ judgeSheet m
+  unfolding unpacked
+  read-code = ap (λ (x : Read). x .code) e ∙ code (eqb (judgeSheet m) 0) refl
+    where
+      code : (b : Bool) → eqb (judgeSheet m) 0 ≡ b → pick b (answer 0 (modelOf (ofSheet m))) (answer (judgeSheet m) noModel) .code ≡ judgeSheet m
+      code true h = sym (eqb-true (judgeSheet m) 0 h)
+      code false h = refl
+
+  module _ (z : r .code ≡ 0) where
+    pub ok : judgeSheet m ≡ 0
+    ok = sym read-code ∙ z
+
+    pub given-task : taskOf (r .model) ≡ taskOn m
+    unfolding taskOn
+    given-task = ap (λ (x : Read). taskOf (x .model)) e ∙ read-task m ok
+
+    pub given-accepted : Accepted (taskOf (r .model))
+    given-accepted = rw e (read-accepted m ok)
+
+    pub given-columns : columnCount (taskOn m) ≡ r .model .columns
+    given-columns = ap columnCount (sym given-task) ∙ columns-of (r .model)
+
+    pub few-columns : r .model .columns ≤ 16
+    few-columns = omega (arith, given-accepted .columns .1, columns-of (r .model))
+
+    -- block 0 alone, in the array
+    pub first-long : (sets : List ℕ) {next : List ℕ} → length sets ≡ 4096 → next ≡ over (whole (taskOf (r .model))) sets → length next ≡ 4096
+    unfolding over whole
+    first-long sets l n =
+        let k = per-length (taskOf (r .model)) (λ j. every (sizeOf (taskOf (r .model)) j)) in
+        ap length n ∙ length-append (whole (taskOf (r .model))) _ ∙ omega (arith, length-drop (length (whole (taskOf (r .model)))) sets, k, given-accepted .columns .1)
+
+    pub first-block : (f : ℕ → CutFields) (sets : List ℕ) {next : List ℕ} → next ≡ over (whole (taskOf (r .model))) sets → Made (taskOn m) f (r .model .columns) 0 next
+    unfolding blocksOf cutAll cutsNamed tab
+    first-block f sets n =
+        ap (blocksIn (r .model .columns) 1) n
+        ∙ subst (λ (k : ℕ). blocksIn k 1 (over (whole (taskOf (r .model))) sets) ≡ whole (taskOf (r .model)) ∷ []) (columns-of (r .model)) (first-made (taskOf (r .model)) sets)
+        ∙ ap (λ (t : Task). whole t ∷ []) given-task
+
+-- ---- the answers of judging both sheets
+module _ (m s : List ℕ) where
+  stops : {r : ℕ} (exit : List ℕ) → r ≡ refusal (cutSheetChecks m s) → (r ≡ 0 → ⊥) → SheetJudged m s r exit
+  stops exit e z = record { refused = e; made = λ n. absurd (z n) }
+
+  pub stops-model : {r : Read} (exit : List ℕ) → r ≡ unpacked m → (r .code ≡ 0 → ⊥) → SheetJudged m s (r .code) exit
+  stops-model exit e z = stops exit (model-refused m s (read-code m e) z) z
+
+  pub stops-inner : {r : Read} {a : ℕ} (exit : List ℕ) → r ≡ unpacked m → r .code ≡ 0 → a ≡ judgePart s → (a ≡ 0 → ⊥) → SheetJudged m s a exit
+  stops-inner exit e z ea za = stops exit (inner-refused m s (ok m e z) ea za) za
+
+  pub stops-ten : {r : Read} {a : ℕ} (exit : List ℕ) → r ≡ unpacked m → r .code ≡ 0 → a ≡ judgePart s → a ≡ 0 → atFront m s ≡ false → SheetJudged m s 10 exit
+  stops-ten exit e z ea za h = stops exit (ten-refused m s (ok m e z) (sym ea ∙ za) h) (λ n. omega arith)
+
+  -- the cut part was judged, in the array that held block 0
+  pub ends : {r : Read} {x : ℕ} {part : List ℕ} (exit : List ℕ) → (e : r ≡ unpacked m) (z : r .code ≡ 0) → atFront m s ≡ true → part ≡ drop (length m) s
+      → PartJudged (taskOn m) part (r .model .columns) x exit → SheetJudged m s x exit
+  ends {r} {x} {part} exit e z front p j =
+      let okm = ok m e z in
+      let t : part ≡ tailOf s = p ∙ sym (tail-is m okm s front) in
+      record {
+        refused = j .refusal ∙ ap (judgeCuts (taskOn m)) t ∙ sym (front-refusal m s okm front);
+        made = λ n.
+            subst (λ (l : List ℕ). Made (taskOn m) (cutOn l) (columnCount (taskOn m)) (countOf l) exit) t
+            (subst (λ (k : ℕ). Made (taskOn m) (cutOn part) k (countOf part) exit) (sym (given-columns m e z)) (j .made n));
+      }
+
+-- ---- rebuilding
+module _ (m s cuts : List ℕ) where
+  pub refusing : {r : ℕ} → r ≡ refusal (rebuildChecks m s cuts) → (r ≡ 0 → ⊥) → outcome (Refused r) cuts ≡ rebuilding m s cuts
+  unfolding rebuilding
+  refusing e z = simp (ne-eqb (refusal (rebuildChecks m s cuts)) 0 (λ q. z (e ∙ q))) (ap (λ (k : ℕ). outcome (Refused k) cuts) e)
+
+  module _ {r : ℕ} {exit : List ℕ} (j : SheetJudged m s r exit) where
+    -- a refusal of the sheets
+    pub sheets-refused : (r ≡ 0 → ⊥) → outcome (Refused r) cuts ≡ rebuilding m s cuts
+    unfolding rebuildChecks
+    sheets-refused z =
+        refusing (j .refused ∙ sym (refusal-append (cutSheetChecks m s) _ ∙ stop (refusal (cutSheetChecks m s)) _ (λ q. z (j .refused ∙ q)))) z
+
+    module _ (z : r ≡ 0) where
+      pub sheets-ok : (judgeSheet m ≡ 0) × (atFront m s ≡ true) × (judgeCuts (taskOn m) (tailOf s) ≡ 0)
+      sheets-ok = sheet-accepted m s (sym (j .refused) ∙ z)
+
+      pub start-within : length m ≤ length s
+      start-within = front-take m s (sheets-ok .1) .0
+
+      pub part-is : take (length s - length m) (drop (length m) s) ≡ tailOf s
+      part-is = rest-all s (length m) ∙ sym (tail-is m (sheets-ok .0) s (sheets-ok .1))
+
+      places : {x : ℕ} → x ≡ refusal (tooFew (countOf (tailOf s) * 3) cuts ∷ []) → x ≡ refusal (rebuildChecks m s cuts)
+      unfolding rebuildChecks
+      places e = e ∙ sym (refusal-append (cutSheetChecks m s) _ ∙ go (refusal (cutSheetChecks m s)) _ (sym (j .refused) ∙ z))
+
+      module _ {n : ℕ} {part : List ℕ} (p : part ≡ tailOf s) (e : n ≡ countOf part) where
+        count-is : n ≡ countOf (tailOf s)
+        count-is = e ∙ ap countOf p
+
+        -- too few places
+        pub places-refused : length cuts < n * 3 → outcome (Refused 8) cuts ≡ rebuilding m s cuts
+        places-refused h =
+            refusing (places (applies 8 (ltb (length cuts) (countOf (tailOf s) * 3)) [] (lt-ltb (length cuts) (countOf (tailOf s) * 3) (omega (arith, count-is))) (λ q. omega arith))) (λ q. omega arith)
+
+        -- the cuts are there
+        pub filled : {next : List ℕ} → n * 3 ≤ length cuts → next ≡ puts 0 (each n (cutValues (cutOn part))) cuts → outcome (Cuts n) next ≡ rebuilding m s cuts
+        unfolding rebuilding over cutList
+        filled h f =
+            let q : 0 ≡ refusal (rebuildChecks m s cuts) = places (passes 8 (ltb (length cuts) (countOf (tailOf s) * 3)) [] (le-ltb (length cuts) (countOf (tailOf s) * 3) (omega (arith, count-is))) no-checks) in
+            let l : length (each n (cutValues (cutOn part))) ≡ n * 3 = each-length (cutValues (cutOn part)) 3 (values-length (cutOn part)) n in
+            let o : puts 0 (each n (cutValues (cutOn part))) cuts ≡ over (cutList s) cuts =
+            puts-over (each n (cutValues (cutOn part))) cuts (omega arith) ∙ ap₂ (λ (k : ℕ) (t : List ℕ). over (each k (cutValues (cutOn t))) cuts) count-is p in
+            simp (eq-eqb (refusal (rebuildChecks m s cuts)) 0 (sym q)) (ap₂ outcome (ap Cuts count-is) (f ∙ o))

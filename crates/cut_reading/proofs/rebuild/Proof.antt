@@ -1,0 +1,67 @@
+use native.Mathlib.Omega.{arith}
+use Rattle.cut_sheets.proofs.JudgeLaws.{count-below}
+use Rattle.cut_reading.proofs.RebuildLaws.{sheets-refused, start-within, part-is, places-refused, filled}
+use borrow.Author.Needs.{needs}
+use Rattle.cut_reading.proofs.rebuild.Statement.{statement}
+use Rattle.cut_reading.proofs.rebuild.Tie as tie
+
+judge-cut-sheet-requires : tie.Need-judge-cut-sheet-requires
+judge-cut-sheet-requires c κs = search needs
+
+returns : tie.Need-returns
+returns c = sheets-refused (c .before .before .before .before .before .before .args .model .now) (c .before .before .before .before .before .before .args .sheet .now) (c .before .before .before .before .before .before .args .cuts .now) (c .before .judge-cut-sheet .ensures) (c .if1 .taken)
+
+sub-part : tie.Need-sub-part
+sub-part c = start-within (c .before .before .before .before .before .before .args .model .now) (c .before .before .before .before .before .before .args .sheet .now) (c .before .before .before .before .before .before .args .cuts .now) (c .before .judge-cut-sheet .ensures) (c .if1 .left)
+
+part-part-start : tie.Need-part-part-start
+part-part-start c = let h = start-within (c .before .before .before .before .before .before .args .model .now) (c .before .before .before .before .before .before .args .sheet .now) (c .before .before .before .before .before .before .args .cuts .now) (c .before .judge-cut-sheet .ensures) (c .if1 .left) in
+    search needs
+
+part-part-end : tie.Need-part-part-end
+part-part-end c = let h = start-within (c .before .before .before .before .before .before .args .model .now) (c .before .before .before .before .before .before .args .sheet .now) (c .before .before .before .before .before .before .args .cuts .now) (c .before .judge-cut-sheet .ensures) (c .if1 .left) in
+    search needs
+
+field-requires : tie.Need-field-requires
+field-requires c κs = search needs
+
+cast-count : tie.Need-cast-count
+cast-count c = search needs
+
+mul-if2 : tie.Need-mul-if2
+mul-if2 c = search needs
+
+returns-2 : tie.Need-returns-2
+returns-2 c = let g = c .before .before .before .before .before .before .before .before .before .args in
+    let j = c .before .before .before .before .judge-cut-sheet .ensures in
+    let z = c .before .before .before .if1 .left in
+    places-refused (g .model .now) (g .sheet .now) (g .cuts .now) j z (part-is (g .model .now) (g .sheet .now) (g .cuts .now) j z) (c .before .field .ensures) (c .if2 .taken)
+
+fill-cuts-requires : tie.Need-fill-cuts-requires
+fill-cuts-requires c κs = (count-below _ (c .before .before .field .ensures), omega arith)
+
+same-length : tie.Need-same-length
+same-length c = search needs
+
+returns-3 : tie.Need-returns-3
+returns-3 c = let g = c .before .before .before .before .before .before .before .before .before .before .before .before .before .args in
+    let j = c .before .before .before .before .before .before .before .before .judge-cut-sheet .ensures in
+    let z = c .before .before .before .before .before .before .before .if1 .left in
+    filled (g .model .now) (g .sheet .now) (g .cuts .now) j z (part-is (g .model .now) (g .sheet .now) (g .cuts .now) j z) (c .before .before .before .before .before .field .ensures) (omega arith) (c .before .before .fill-cuts .ensures)
+
+pub rebuild-spec : {M : Type 1} → statement M
+rebuild-spec =
+    tie.close
+    (tie.spec
+    judge-cut-sheet-requires
+    returns
+    sub-part
+    part-part-start
+    part-part-end
+    field-requires
+    cast-count
+    mul-if2
+    returns-2
+    fill-cuts-requires
+    same-length
+    returns-3)
