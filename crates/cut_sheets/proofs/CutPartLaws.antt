@@ -70,10 +70,10 @@ pub record CutReads (s : List ℕ) (p : CutSource) (n : ℕ) : Type 0 where
   pub fill : fieldAt s (cutBits n) (fillBits (cutBits n)) ≡ p .fill .value
 
 module _ (t : Task) (s : List ℕ) (p : CutSource) (n : ℕ) where
-  at-cuts : 0 + bitsIn (H t p n) ≡ 12
+  pub at-cuts : 0 + bitsIn (H t p n) ≡ 12
   at-cuts = omega (arith, header-bits t p n)
 
-  at-fill : 12 + bitsIn (C t p n) ≡ cutBits n
+  pub at-fill : 12 + bitsIn (C t p n) ≡ cutBits n
   unfolding cutBits
   at-fill = omega (arith, cuts-bits t p n)
 

@@ -112,7 +112,7 @@ module _ (t : Task) (f : ℕ → CutFields) (i : ℕ) where
       (true-or-false (cutOk t Bs (cutNamed (f i))))
 
 -- ---- what the test of a cut says whatever the task
-anyTask : ℕ → Task
+pub anyTask : ℕ → Task
 anyTask columns = record { columns = replicate columns noColumn; steps = [] }
 
 any-columns : (columns : ℕ) → columnCount (anyTask columns) ≡ columns

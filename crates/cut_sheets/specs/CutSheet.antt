@@ -62,7 +62,10 @@ ofCuts count cuts = record { form = given 2; count = given count; cut = cutLent 
 unfoldable pub cutSheetOf : List ℕ → ℕ → List ℕ → List ℕ
 cutSheetOf model count cuts = model ++ sheetOf (cutEntries (taskOn model) (ofCuts count cuts))
 
--- the model sheet, the count, the cuts, then 8
+-- the model sheet, the count, the cuts
+unfoldable pub givenChecks : List ℕ → ℕ → List ℕ → List Check
+givenChecks model count cuts = sheetChecks model ++ checksOf (cutEntries (taskOn model) (ofCuts count cuts))
+
+-- then 8
 unfoldable pub writeCutsChecks : List ℕ → ℕ → List ℕ → List ℕ → List Check
-writeCutsChecks model count cuts sheet =
-    sheetChecks model ++ (checksOf (cutEntries (taskOn model) (ofCuts count cuts)) ++ (tooFew (length model + cutBytes count) sheet ∷ []))
+writeCutsChecks model count cuts sheet = givenChecks model count cuts ++ (tooFew (length model + cutBytes count) sheet ∷ [])

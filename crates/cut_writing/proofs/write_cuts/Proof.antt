@@ -1,0 +1,87 @@
+use native.Mathlib.Omega.{arith}
+use mathlib.Core.Path.{refl, sym, _∙_}
+use borrow.Author.Needs.{needs}
+use Rattle.cut_sheets.specs.CutSheet.{taskOn}
+use Rattle.cut_writing.proofs.CutWritingLaws.{given-places, given-ok, given-refused, room-refused, put-written}
+use Prim.Native.Nat.{_+_, _*_}
+use Rattle.fields.specs.Packing.{bytesFor}
+use Rattle.cut_sheets.specs.CutPart.{cutBits}
+use Rattle.cut_writing.proofs.write_cuts.Statement.{statement}
+use Rattle.cut_writing.proofs.write_cuts.Tie as tie
+
+judge-given-requires : tie.Need-judge-given-requires
+judge-given-requires c κs = search needs
+
+returns : tie.Need-returns
+returns c = let g = c .before .before .before .before .before .args in
+    given-refused (g .model .now) (g .count) (g .cuts .now) (g .sheet .now) (c .before .judge-given .ensures) (c .if1 .taken)
+
+mul-bytes : tie.Need-mul-bytes
+mul-bytes c = let p = given-places (taskOn (c .before .before .before .before .before .args .model .now)) (c .before .before .before .before .before .args .count) (c .before .before .before .before .before .args .cuts .now) (given-ok (c .before .before .before .before .before .args .model .now) (c .before .before .before .before .before .args .count) (c .before .before .before .before .before .args .cuts .now) (sym (c .before .judge-given .ensures) ∙ c .if1 .left) .1) in omega (arith, p .0)
+
+add-bytes : tie.Need-add-bytes
+add-bytes c = let p = given-places (taskOn (c .before .before .before .before .before .args .model .now)) (c .before .before .before .before .before .args .count) (c .before .before .before .before .before .args .cuts .now) (given-ok (c .before .before .before .before .before .args .model .now) (c .before .before .before .before .before .args .count) (c .before .before .before .before .before .args .cuts .now) (sym (c .before .judge-given .ensures) ∙ c .if1 .left) .1) in omega (arith, p .0)
+
+add-bytes-2 : tie.Need-add-bytes-2
+add-bytes-2 c = let p = given-places (taskOn (c .before .before .before .before .before .args .model .now)) (c .before .before .before .before .before .args .count) (c .before .before .before .before .before .args .cuts .now) (given-ok (c .before .before .before .before .before .args .model .now) (c .before .before .before .before .before .args .count) (c .before .before .before .before .before .args .cuts .now) (sym (c .before .judge-given .ensures) ∙ c .if1 .left) .1) in omega (arith, p .0)
+
+returns-2 : tie.Need-returns-2
+unfolding cutBits bytesFor
+returns-2 c = let g = c .before .before .before .before .before .before .args in
+    room-refused (g .model .now) (g .count) (g .cuts .now) (g .sheet .now) (c .before .before .judge-given .ensures) (c .before .if1 .left) (omega arith)
+
+sub-if3 : tie.Need-sub-if3
+sub-if3 c = search needs
+
+returns-3 : tie.Need-returns-3
+unfolding cutBits bytesFor
+returns-3 c = let g = c .before .before .before .before .before .before .before .args in
+    room-refused (g .model .now) (g .count) (g .cuts .now) (g .sheet .now) (c .before .before .before .judge-given .ensures) (c .before .before .if1 .left) (omega arith)
+
+put-front-requires : tie.Need-put-front-requires
+put-front-requires c κs = search needs
+
+sub-put-cut-part : tie.Need-sub-put-cut-part
+sub-put-cut-part c = search needs
+
+part-put-cut-part-start : tie.Need-part-put-cut-part-start
+part-put-cut-part-start c = search needs
+
+part-put-cut-part-end : tie.Need-part-put-cut-part-end
+part-put-cut-part-end c = search needs
+
+put-cut-part-requires : tie.Need-put-cut-part-requires
+put-cut-part-requires c κs = given-places (taskOn (c .before .before .before .before .before .before .before .before .before .before .before .before .args .model .now)) (c .before .before .before .before .before .before .before .before .before .before .before .before .args .count) (c .before .before .before .before .before .before .before .before .before .before .before .before .args .cuts .now) (given-ok (c .before .before .before .before .before .before .before .before .before .before .before .before .args .model .now) (c .before .before .before .before .before .before .before .before .before .before .before .before .args .count) (c .before .before .before .before .before .before .before .before .before .before .before .before .args .cuts .now) (sym (c .before .before .before .before .before .before .before .before .judge-given .ensures) ∙ c .before .before .before .before .before .before .before .if1 .left) .1)
+
+add-t10 : tie.Need-add-t10
+add-t10 c = search needs
+
+same-length : tie.Need-same-length
+same-length c = search needs
+
+returns-4 : tie.Need-returns-4
+unfolding cutBits bytesFor
+returns-4 c = let g = c .before .before .before .before .before .before .before .before .before .before .before .before .before .before .before .args in
+    put-written (g .model .now) (g .count) (g .cuts .now) (g .sheet .now) (c .before .before .before .before .before .before .before .before .before .before .before .judge-given .ensures) (c .before .before .before .before .before .before .before .before .before .before .if1 .left) (λ i. omega (arith, c .before .before .before .before .before .before .before .before .before .before .before .before .slice-known .given i)) (omega arith)
+    (λ i l. omega (arith, c .before .before .before .before .before .before .before .before .before .before .before .before .before .shared-slice-known2 .given (i * 3 + 2))) refl (c .before .before .before .before .before .before .put-front .ensures) (c .before .before .put-cut-part .ensures (taskOn (g .model .now))) refl
+
+pub write-cuts-spec : {M : Type 1} → statement M
+write-cuts-spec =
+    tie.close
+    (tie.spec
+    judge-given-requires
+    returns
+    mul-bytes
+    add-bytes
+    add-bytes-2
+    returns-2
+    sub-if3
+    returns-3
+    put-front-requires
+    sub-put-cut-part
+    part-put-cut-part-start
+    part-put-cut-part-end
+    put-cut-part-requires
+    add-t10
+    same-length
+    returns-4)

@@ -1,0 +1,29 @@
+-- Writing a cut sheet from a model sheet and a lent list of cuts: the answer, and what the lent bytes then hold.
+use Prim.Native.Nat.{ℕ, _+_}
+use mathlib.Core.List.{List}
+use lib.Dec.{eqb}
+use lib.ListN.{length}
+use Rattle.task.specs.Loops.{over}
+use Rattle.fields.specs.Judging.{pick, refusal}
+use Rattle.cut_sheets.specs.CutPart.{cutBytes}
+use Rattle.cut_sheets.specs.CutSheet.{cutSheetOf, writeCutsChecks}
+use Rattle.cut_writing.specs.declared.CutsWritten.{CutsWritten}
+use Rattle.cut_writing.specs.declared.CutsWritten.the-variants.{Bytes, Refused}
+
+-- an answer's refusal number; 0 for none
+unfoldable pub number : CutsWritten → ℕ
+number (Bytes n) = 0
+number (Refused n) = n
+
+pub record Outcome : Type 0 where
+  pub answer : CutsWritten
+  pub sheet : List ℕ
+
+abbrev pub outcome : CutsWritten → List ℕ → Outcome
+outcome a sheet = record { answer = a; sheet = sheet }
+
+-- a refusal returns only its number and changes nothing lent; else the bytes are the sheet, and those past it stay
+unfoldable pub writingCuts : List ℕ → ℕ → List ℕ → List ℕ → Outcome
+writingCuts model count cuts sheet =
+    let n = refusal (writeCutsChecks model count cuts sheet) in
+    pick (eqb n 0) (outcome (Bytes (length model + cutBytes count)) (over (cutSheetOf model count cuts) sheet)) (outcome (Refused n) sheet)
