@@ -1,36 +1,34 @@
 -- The distances of the generic search are those of the blocks: a path of the one is a path of the other, of the same cost and as many steps.
-use mathlib.Core.Path.{_≡_, refl, sym, _∙_, ap, ap₂, subst}
+use mathlib.Core.Path.{_≡_, refl, sym, _∙_, ap, ap₂}
 use mathlib.Core.Logic.{_⊎_, inl, inr, ⊎-elim}
-use mathlib.Core.Bool.{Bool, true, false, cond}
+use mathlib.Core.Bool.{true}
 use mathlib.Core.List.{List, [], _∷_, _++_}
 use mathlib.Core.Option.{Option, none, some}
-use Prim.Native.Nat.{ℕ, zero, suc, _+_, _-_, _*_, _/_, _%_, _<_, _≤_}
+use Prim.Native.Nat.{ℕ, suc, _+_, _-_, _*_, _/_, _%_, _<_, _≤_}
 use native.Mathlib.Decide.{decLt}
 use native.Mathlib.Omega.{arith}
 use native.Mathlib.Numerals.{add-one}
-use lib.Dec.{ltb}
-use lib.ListN.{length, getD, drop, length-drop, List·getD-append}
+use lib.ListN.{length, getD, drop, List·getD-append}
 use lib.Seq.{ext-getD, getD-drop, getD-append-add}
 use borrow.Author.Tests.{lt-ltb, le-ltb}
 use Rattle.task.specs.declared.Step.{Step}
 use Rattle.task.specs.declared.Block.{Block}
 use Rattle.task.specs.Loops.{tab, over}
-use Rattle.task.specs.Sizes.{limits}
 use Rattle.task.specs.declared.Model.{Model}
 use Rattle.task.specs.Tables.{taskOf}
 use Rattle.task.proofs.TableLaws.{columns-of, steps-of, cost-of}
-use Rattle.task.specs.Task.{Task, Accepted, Tenths, step, block, columnCount, stepCount, costOf}
+use Rattle.task.specs.Task.{Task, Accepted, Tenths, step, block, costOf}
 use Rattle.task.proofs.LoopLaws.{tab-length, tab-at, over-length}
-use Rattle.blocks.specs.Blocks.{Blocks, blockAt, goalBlock, leads}
+use Rattle.blocks.specs.Blocks.{Blocks, leads}
 use Rattle.blocks.specs.Flat.{blocksIn}
-use Rattle.blocks.specs.Masks.{Told, leadsBy, goalBy, needSets, landSets, goalSets}
+use Rattle.blocks.specs.Masks.{needSets, landSets, goalSets}
 use Rattle.blocks.proofs.FlatLaws.{blocks-length}
 use Rattle.blocks.proofs.MaskLaws.{leads-by, goal-by, masks-told}
-use Rattle.distances.specs.Distances.{Distance, Hop, AtMost, IsDistance, DistanceIs, leadsTo, isPath, far, farOf, plus, zeroFar, distances}
+use Rattle.distances.specs.Distances.{Distance, Hop, AtMost, DistanceIs, leadsTo, isPath, far, farOf, plus, zeroFar, distances}
 use Rattle.distances.specs.Ways.{Path, here, step as hop, NoWorse, noWay, IsDist, AllDist}
 use Rattle.distances.specs.Arcs.{Arc, GoalIn, costIn}
 use Rattle.distances.specs.Coded.{coded, decoded, codedAt, codedOver, Tables}
-use Rattle.distances.proofs.LeastLaws.{PathOf, First, first-of, path-cons, distances-right}
+use Rattle.distances.proofs.LeastLaws.{PathOf, first-of, path-cons, distances-right}
 use Rattle.distances.proofs.TableLaws.{distance-unique, rounds-bound}
 
 -- ---- a list written over, by its places

@@ -1,28 +1,27 @@
 -- The search for the next hop on numbers finds the one of the definitions.
 use mathlib.Core.Path.{_≡_, refl, sym, _∙_, ap, ap₂}
-use mathlib.Core.Logic.{_⊎_, inl, inr, ⊎-elim, _≢_}
-use mathlib.Core.Bool.{Bool, true, false, _&&_, and-false, and-true}
-use mathlib.Core.List.{List, [], _∷_}
+use mathlib.Core.Logic.{_⊎_, ⊎-elim, _≢_}
+use mathlib.Core.Bool.{Bool, true, false, _&&_, and-false}
+use mathlib.Core.List.{List}
 use mathlib.Core.Option.{Option, none, some}
 use Prim.Native.Nat.{ℕ, zero, suc, _+_, _-_, _*_, _<_, _≤_}
 use native.Mathlib.Nat.{not-suc-le-zero}
 use native.Mathlib.Omega.{arith}
 use native.Mathlib.Numerals.{add-one}
 use lib.Dec.{eqb}
-use lib.ListN.{length, getD}
+use lib.ListN.{length}
 use borrow.Author.Tests.{eq-eqb, ne-eqb}
 use Rattle.task.specs.declared.Step.{Step}
 use Rattle.task.specs.declared.Block.{Block}
 use Rattle.task.specs.Loops.{first, when}
-use Rattle.task.specs.Task.{Task, Accepted, step, block, stepCount, costOf}
+use Rattle.task.specs.Task.{Task, Accepted, step, block, costOf}
 use Rattle.task.proofs.LoopLaws.{below-suc}
 use Rattle.blocks.specs.Blocks.{Blocks}
 use Rattle.blocks.specs.Flat.{blocksIn}
-use Rattle.blocks.specs.Masks.{leadsBy}
 use Rattle.blocks.proofs.FlatLaws.{blocks-length}
 use Rattle.blocks.proofs.MaskLaws.{leads-by}
 use Rattle.blocks.proofs.PartLaws.{same-or-not}
-use Rattle.distances.specs.Distances.{Distance, Hop, Table, farOf, plus, leadsTo, distances}
+use Rattle.distances.specs.Distances.{Distance, farOf, plus, leadsTo, distances}
 use Rattle.distances.specs.Ways.{noWay}
 use Rattle.distances.specs.Coded.{coded, codedAt, Tables}
 use Rattle.distances.proofs.JoinLaws.{far-small}

@@ -2,10 +2,10 @@ use Rattle.run.proofs.HopLaws.{first-nothing, first-more, next-no, next
 use Rattle.run.specs.Hops.{fitsBy, nextIn, nextOf, nextBy, hopOf}
 use Rattle.task.specs.Loops.{first}
 use native.Mathlib.Omega.{arith}
-use Prim.Native.Nat.{ℕ, _≤_, _<_, _-_}
-use mathlib.Core.Option.{none, some}
+use Prim.Native.Nat.{_≤_, _<_, _-_}
+use mathlib.Core.Option.{none}
 use mathlib.Core.Logic.{⊎-elim}
-use mathlib.Core.Path.{_≡_, refl, sym, _∙_, ap}
+use mathlib.Core.Path.{_≡_, sym}
 use borrow.Author.Needs.{needs}
 use Rattle.run.proofs.next_hop.Statement.{statement}
 use Rattle.run.proofs.next_hop.Tie as tie
