@@ -17,7 +17,7 @@ use Rattle.task.specs.Task.{Task, column, block, at, columnCount, sizeOf, perCo
 use Rattle.task.specs.Tables.{taskOf}
 use Rattle.task.proofs.TaskLaws.{per-length}
 use Rattle.task.proofs.TableLaws.{columns-of, size-of}
-use Rattle.task.proofs.LoopLaws.{over-more, tab-at, tab-length, tab-ext, below-suc}
+use Rattle.task.proofs.LoopLaws.{over-length, over-more, tab-at, tab-length, tab-ext, below-suc}
 use Rattle.blocks.specs.declared.Cut.{Cut}
 use Rattle.blocks.specs.Blocks.{PositionSet, Sets, Blocks, every, common, without, setAt, blockAt, withSet, cutBlock, whole, cutOk}
 use Rattle.blocks.specs.Flat.{past, rowOf, setsIn, blocksIn, laid, cutIn}
@@ -103,6 +103,10 @@ firstSet m j = every (getD (m .size) j 0)
 pub first-whole : (m : Model) → tab (m .columns) (firstSet m) ≡ whole (taskOf m)
 unfolding whole perColumn firstSet
 first-whole m = rw (columns-of m) (tab-ext (m .columns) _ _ (λ j h. ap every (sym (size-of m (column j) h))))
+
+pub first-long : (t : Task) (l : List ℕ) → columnCount t ≤ length l → length (over (whole t) l) ≡ length l
+unfolding whole perColumn
+first-long t l h = over-length (columnCount t) (λ j. every (sizeOf t (column j))) l h
 
 -- the array holds block 0
 pub first-made : (t : Task) (sets : List ℕ) → blocksIn (columnCount t) 1 (over (whole t) sets) ≡ whole t ∷ []

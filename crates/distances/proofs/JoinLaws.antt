@@ -3,7 +3,7 @@ use mathlib.Core.Path.{_≡_, refl, sym, _∙_, ap, ap₂}
 use mathlib.Core.Logic.{_⊎_, inl, inr, ⊎-elim}
 use mathlib.Core.Bool.{true}
 use mathlib.Core.List.{List, [], _∷_, _++_}
-use mathlib.Core.Option.{Option, none, some}
+use mathlib.Core.Option.{Option, none, some, Option·map, Option·getD}
 use Prim.Native.Nat.{ℕ, suc, _+_, _-_, _*_, _/_, _%_, _<_, _≤_}
 use native.Mathlib.Decide.{decLt}
 use native.Mathlib.Omega.{arith}
@@ -13,6 +13,7 @@ use lib.Seq.{ext-getD, getD-drop, getD-append-add}
 use borrow.Author.Tests.{lt-ltb, le-ltb}
 use Rattle.task.specs.declared.Step.{Step}
 use Rattle.task.specs.declared.Block.{Block}
+use Rattle.task.specs.Sizes.{limits}
 use Rattle.task.specs.Loops.{tab, over}
 use Rattle.task.specs.declared.Model.{Model}
 use Rattle.task.specs.Tables.{taskOf}
@@ -176,3 +177,12 @@ module _ (t : Task) (bs : Blocks) (cheap : (s : Step) → costOf t s ≤ 65535) 
             top = omega (arith, s .0, s .1);
             is = decoded-low n (omega (arith, s .0, s .1)) ∙ ap₂ {C = Option Distance} (λ (x y : ℕ). some (record { cost = x; steps = y })) c k;
           }
+
+  -- its cost, and the mark where there is no way
+  pub cost-said : (a : Block) → a .0 < length bs → codedAt (distances t bs) (a .0) / 65536 ≡ Option·getD (Option·map (λ d. d .cost) (farOf (distances t bs) a)) (limits .«no_way»)
+  unfolding codedAt coded
+  cost-said a h = go (farOf (distances t bs) a) refl
+    where
+      go : (o : Option Distance) → farOf (distances t bs) a ≡ o → coded o / 65536 ≡ Option·getD (Option·map (λ d. d .cost) o) (limits .«no_way»)
+      go none e = refl
+      go (some d) e = omega (arith, far-small a d h e .0)
