@@ -1,29 +1,26 @@
 -- Laws of the flat arrays: what is written where, the first block, a cut made, and the block of a state found by following the cuts.
-use mathlib.Core.Path.{_≡_, refl, sym, ap, ap₂, _∙_, subst}
+use mathlib.Core.Path.{_≡_, refl, sym, ap, _∙_}
 use mathlib.Core.Logic.{_⊎_, inl, inr, ⊎-elim, _≢_}
-use mathlib.Core.Bool.{Bool, true, false, _&&_, cond}
+use mathlib.Core.Bool.{false}
 use mathlib.Core.List.{List, [], _∷_, _++_, append-nil}
-use mathlib.Core.Option.{Option, none, some}
-use Prim.Native.Nat.{ℕ, zero, suc, _+_, _*_, _≤_, _<_}
+use Prim.Native.Nat.{ℕ, zero, suc, _+_, _≤_, _<_}
 use native.Mathlib.Nat.{not-suc-le-zero, zero-add}
 use native.Mathlib.Omega.{arith}
 use native.Mathlib.Numerals.{add-one}
-use lib.ListN.{length, getD, set, drop, take, length-set, drop-of-length-le, List·getD-append, length-append}
+use lib.ListN.{length, getD, set, drop, length-set, drop-of-length-le, List·getD-append}
 use lib.Seq.{getD-set-same, getD-set-other, ext-getD}
-use lib.Dec.{eqb}
 use Rattle.task.specs.declared.Column.{Column}
 use Rattle.task.specs.declared.Block.{Block}
 use Rattle.task.specs.Loops.{tab, over}
-use Rattle.task.specs.Sizes.{limits}
 use Rattle.task.specs.declared.Model.{Model}
-use Rattle.task.specs.Task.{Task, State, Accepted, column, block, at, columnCount, sizeOf, isState, perColumn}
+use Rattle.task.specs.Task.{Task, column, block, at, columnCount, sizeOf, perColumn}
 use Rattle.task.specs.Tables.{taskOf}
 use Rattle.task.proofs.TaskLaws.{per-length}
 use Rattle.task.proofs.TableLaws.{columns-of, size-of}
-use Rattle.task.proofs.LoopLaws.{over-more, tab-at, tab-length, tab-ext, below-suc, and-left, and-right, true-or-false}
+use Rattle.task.proofs.LoopLaws.{over-length, over-more, tab-at, tab-length, tab-ext, below-suc}
 use Rattle.blocks.specs.declared.Cut.{Cut}
-use Rattle.blocks.specs.Blocks.{PositionSet, Sets, Blocks, holds, every, common, without, setAt, blockAt, withSet, cutBlock, inBlock, whole, cutOk}
-use Rattle.blocks.specs.Flat.{past, rowOf, setsIn, blocksIn, laid, cutIn, cutAt, cutsIn, goesOn, followed}
+use Rattle.blocks.specs.Blocks.{PositionSet, Sets, Blocks, every, common, without, setAt, blockAt, withSet, cutBlock, whole, cutOk}
+use Rattle.blocks.specs.Flat.{past, rowOf, setsIn, blocksIn, laid, cutIn}
 use Rattle.blocks.specs.Masks.{parts}
 use borrow.Author.Tests.{lt-ltb, le-ltb}
 use Rattle.blocks.proofs.PartLaws.{same-or-not, oldBlock, oldSet, restBlock, newBlock, cut-is}
@@ -106,6 +103,10 @@ firstSet m j = every (getD (m .size) j 0)
 pub first-whole : (m : Model) → tab (m .columns) (firstSet m) ≡ whole (taskOf m)
 unfolding whole perColumn firstSet
 first-whole m = rw (columns-of m) (tab-ext (m .columns) _ _ (λ j h. ap every (sym (size-of m (column j) h))))
+
+pub first-long : (t : Task) (l : List ℕ) → columnCount t ≤ length l → length (over (whole t) l) ≡ length l
+unfolding whole perColumn
+first-long t l h = over-length (columnCount t) (λ j. every (sizeOf t (column j))) l h
 
 -- the array holds block 0
 pub first-made : (t : Task) (sets : List ℕ) → blocksIn (columnCount t) 1 (over (whole t) sets) ≡ whole t ∷ []

@@ -1,15 +1,14 @@
 -- Following the cuts finds the block of a state.
-use mathlib.Core.Path.{_≡_, refl, sym, ap, _∙_, subst}
-use mathlib.Core.Logic.{_⊎_, inl, inr, ⊎-elim, _≢_}
-use mathlib.Core.Bool.{Bool, true, false, _&&_, cond}
+use mathlib.Core.Path.{_≡_, refl, sym, ap, _∙_}
+use mathlib.Core.Logic.{_⊎_, ⊎-elim, _≢_}
+use mathlib.Core.Bool.{Bool, true, false, cond}
 use mathlib.Core.List.{List, [], _∷_, _++_}
-use mathlib.Core.Option.{Option, none, some}
-use Prim.Native.Nat.{ℕ, zero, suc, _+_, _*_, _≤_, _<_}
+use mathlib.Core.Option.{some}
+use Prim.Native.Nat.{ℕ, zero, suc, _+_, _*_, _<_}
 use native.Mathlib.Nat.{not-suc-le-zero}
 use native.Mathlib.Omega.{arith}
 use native.Mathlib.Numerals.{add-one}
 use lib.ListN.{length, getD, take}
-use lib.Dec.{eqb}
 use lib.Seq.{getD-take}
 use borrow.Author.Tests.{eq-eqb, ne-eqb}
 use Rattle.task.specs.declared.Block.{Block}
@@ -17,11 +16,11 @@ use Rattle.task.specs.Loops.{tab}
 use Rattle.task.specs.Task.{Task, State, Accepted, block, position, at, columnCount, isState}
 use Rattle.task.proofs.LoopLaws.{and-left, and-right, tab-length, below-suc}
 use Rattle.blocks.specs.declared.Cut.{Cut}
-use Rattle.blocks.specs.Blocks.{Blocks, holds, blockAt, cutBlock, inBlock, whole, cutOk, cutsOk, cutAll, accepted, blocksOf, blockOf}
+use Rattle.blocks.specs.Blocks.{Blocks, blockAt, cutBlock, inBlock, whole, cutOk, cutsOk, cutAll, accepted, blocksOf, blockOf}
 use Rattle.blocks.specs.Flat.{cutAt, cutsIn, goesOn, followed}
 use Rattle.blocks.proofs.LeadLaws.{in-within}
-use Rattle.blocks.proofs.PartLaws.{same-or-not, Parts, CutFits, Origin, origin, fits, cut-parts, cut-length}
-use Rattle.blocks.proofs.CutLaws.{whole-parts, accepted-parts, blocks-more, blocks-length, block-only, block-of}
+use Rattle.blocks.proofs.PartLaws.{same-or-not, Parts, CutFits, Origin, origin, fits, cut-parts}
+use Rattle.blocks.proofs.CutLaws.{whole-parts, accepted-parts, blocks-more, blocks-length, block-only}
 
 pub followed-none : (l : List ℕ) (x : State) → followed l x 0 ≡ 0
 unfolding followed

@@ -1,17 +1,16 @@
 -- The sets that stand for needs, landings and goals say what the marks say, and the tests on them are those of 01.
 use mathlib.Core.Path.{_≡_, refl, sym, ap, ap₂, _∙_}
-use mathlib.Core.Logic.{_⊎_, inl, inr, ⊎-elim, _≢_}
-use mathlib.Core.Bool.{Bool, true, false, _&&_, not, cond, and-true}
+use mathlib.Core.Logic.{_⊎_, ⊎-elim, _≢_}
+use mathlib.Core.Bool.{true, false, _&&_, and-true}
 use mathlib.Core.List.{List}
 use mathlib.Core.Option.{Option, none, some}
-use Prim.Native.Nat.{ℕ, zero, suc, _+_, _-_, _*_, _/_, _%_, _^_, _≤_, _<_}
+use Prim.Native.Nat.{ℕ, suc, _+_, _-_, _*_, _/_, _%_, _^_, _≤_, _<_}
 use native.Mathlib.Nat.{mod-eq-of-lt, two-pow-succ}
 use native.Mathlib.Numerals.{one-add}
 use native.Mathlib.Omega.{arith}
-use lib.Dec.{eqb, ltb}
 use lib.Pow.{pow-pos, pow-mono}
 use lib.Bits.{bitAnd, and-high, and-zero-r}
-use lib.ListN.{length, getD}
+use lib.ListN.{getD}
 use borrow.Author.Tests.{eq-eqb, ne-eqb, le-ltb, lt-ltb}
 use Rattle.task.specs.declared.Column.{Column}
 use Rattle.task.specs.declared.Position.{Position}
@@ -19,13 +18,12 @@ use Rattle.task.specs.declared.Step.{Step}
 use Rattle.task.specs.declared.Block.{Block}
 use Rattle.task.specs.declared.Mark.{Mark}
 use Rattle.task.specs.declared.Model.{Model}
-use Rattle.task.specs.Loops.{all, tab}
-use Rattle.task.specs.Task.{Task, Accepted, column, position, step, block, columnCount, stepCount, sizeOf, needAt, effectAt, goalAt, eachColumn}
+use Rattle.task.specs.Task.{Task, Accepted, column, position, columnCount, stepCount, sizeOf, needAt, effectAt, goalAt, eachColumn}
 use Rattle.task.specs.Tables.{mark, marked, taskOf}
 use Rattle.task.proofs.LoopLaws.{all-ext, tab-at}
 use Rattle.task.proofs.TableLaws.{columns-of, steps-of, goal-of, need-of, effect-of, marked-none, marked-some}
-use Rattle.blocks.specs.Blocks.{PositionSet, Sets, holds, only, common, isEmpty, leadsAt, goalIn, setAt, blockAt, leads, goalBlock}
-use Rattle.blocks.specs.Flat.{past, rowOf, setsIn, blocksIn}
+use Rattle.blocks.specs.Blocks.{PositionSet, holds, only, common, isEmpty, leadsAt, goalIn, blockAt, leads, goalBlock}
+use Rattle.blocks.specs.Flat.{past, rowOf, blocksIn}
 use Rattle.blocks.specs.Masks.{wants, landing, lies, passes, markSet, landSet, needSet, landsSet, goalSet, needSets, landSets, goalSets, Told, leadsBy, goalBy}
 use Rattle.blocks.proofs.PartLaws.{same-or-not}
 use Rattle.blocks.proofs.FlatLaws.{block-at, set-at}

@@ -1,5 +1,5 @@
 -- The blocks and the cuts as code has them: flat arrays of numbers. Block a, column j stands at place a * 16 + j.
-use mathlib.Core.Bool.{Bool, true, false, _&&_, cond}
+use mathlib.Core.Bool.{Bool, _&&_, cond}
 use mathlib.Core.List.{List}
 use Prim.Native.Nat.{ℕ, zero, suc, _+_, _*_}
 use lib.Dec.{eqb}

@@ -13,9 +13,9 @@ use lib.Bits.{bitAnd, and-block}
 use lib.ListN.{length, getD, set}
 use lib.Seq.{getD-set-same, getD-set-other}
 use borrow.Author.Tests.{eq-eqb, ne-eqb}
-use borrow.Author.Count.{below-none, below-more}
+use borrow.Author.Count.{below-more}
 use Rattle.task.specs.Loops.{all}
-use Rattle.task.proofs.LoopLaws.{all-ext, all-fails, all-intro, below-suc, true-or-false}
+use Rattle.task.proofs.LoopLaws.{all-fails, all-intro, below-suc, true-or-false}
 use Rattle.blocks.specs.Blocks.{common, isEmpty}
 use Rattle.blocks.specs.Flat.{past, rowOf}
 use Rattle.blocks.specs.Masks.{lies, passes, leadsBy}

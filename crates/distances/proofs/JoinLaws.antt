@@ -1,33 +1,35 @@
 -- The distances of the generic search are those of the blocks: a path of the one is a path of the other, of the same cost and as many steps.
-use mathlib.Core.Path.{_≡_, refl, sym, _∙_, ap, ap₂, subst}
+use mathlib.Core.Path.{_≡_, refl, sym, _∙_, ap, ap₂}
 use mathlib.Core.Logic.{_⊎_, inl, inr, ⊎-elim}
-use mathlib.Core.Bool.{Bool, true, false, cond}
+use mathlib.Core.Bool.{true}
 use mathlib.Core.List.{List, [], _∷_, _++_}
-use mathlib.Core.Option.{Option, none, some}
-use Prim.Native.Nat.{ℕ, zero, suc, _+_, _-_, _*_, _/_, _%_, _<_, _≤_}
+use mathlib.Core.Option.{Option, none, some, Option·map, Option·getD}
+use Prim.Native.Nat.{ℕ, suc, _+_, _-_, _*_, _/_, _%_, _<_, _≤_}
 use native.Mathlib.Decide.{decLt}
 use native.Mathlib.Omega.{arith}
 use native.Mathlib.Numerals.{add-one}
-use lib.Dec.{ltb}
-use lib.ListN.{length, getD, drop, length-drop, List·getD-append}
+use lib.ListN.{length, getD, drop, List·getD-append}
 use lib.Seq.{ext-getD, getD-drop, getD-append-add}
 use borrow.Author.Tests.{lt-ltb, le-ltb}
 use Rattle.task.specs.declared.Step.{Step}
 use Rattle.task.specs.declared.Block.{Block}
-use Rattle.task.specs.Loops.{tab, over}
 use Rattle.task.specs.Sizes.{limits}
-use Rattle.task.specs.Task.{Task, Tenths, step, block, columnCount, stepCount, costOf}
+use Rattle.task.specs.Loops.{tab, over}
+use Rattle.task.specs.declared.Model.{Model}
+use Rattle.task.specs.Tables.{taskOf}
+use Rattle.task.proofs.TableLaws.{columns-of, steps-of, cost-of}
+use Rattle.task.specs.Task.{Task, Accepted, Tenths, step, block, costOf}
 use Rattle.task.proofs.LoopLaws.{tab-length, tab-at, over-length}
-use Rattle.blocks.specs.Blocks.{Blocks, blockAt, goalBlock, leads}
+use Rattle.blocks.specs.Blocks.{Blocks, leads}
 use Rattle.blocks.specs.Flat.{blocksIn}
-use Rattle.blocks.specs.Masks.{Told, leadsBy, goalBy}
+use Rattle.blocks.specs.Masks.{needSets, landSets, goalSets}
 use Rattle.blocks.proofs.FlatLaws.{blocks-length}
-use Rattle.blocks.proofs.MaskLaws.{leads-by, goal-by}
-use Rattle.distances.specs.Distances.{Distance, Hop, AtMost, IsDistance, DistanceIs, leadsTo, isPath, far, farOf, plus, zeroFar, distances}
+use Rattle.blocks.proofs.MaskLaws.{leads-by, goal-by, masks-told}
+use Rattle.distances.specs.Distances.{Distance, Hop, AtMost, DistanceIs, leadsTo, isPath, far, farOf, plus, zeroFar, distances}
 use Rattle.distances.specs.Ways.{Path, here, step as hop, NoWorse, noWay, IsDist, AllDist}
 use Rattle.distances.specs.Arcs.{Arc, GoalIn, costIn}
 use Rattle.distances.specs.Coded.{coded, decoded, codedAt, codedOver, Tables}
-use Rattle.distances.proofs.LeastLaws.{PathOf, First, first-of, path-cons, distances-right}
+use Rattle.distances.proofs.LeastLaws.{PathOf, first-of, path-cons, distances-right}
 use Rattle.distances.proofs.TableLaws.{distance-unique, rounds-bound}
 
 -- ---- a list written over, by its places
@@ -143,3 +145,44 @@ module _ (t : Task) (columns count steps : ℕ) (needs lands goals costs sets : 
       (λ (b : i < count). number-is i (getD D′ i 0) b (r .each i b) ∙ sym (over-front f D count i b))
       (λ (b : count ≤ i). r .rest i b ∙ sym (over-past f D count i b))
       (below-or-not i count))
+
+-- the tables of a model are those of its task
+pub model-tables : (m : Model) → Accepted (taskOf m) → Tables (taskOf m) (m .columns) (m .steps) (needSets m) (landSets m) (goalSets m) (m .cost)
+model-tables m v = record { wide = columns-of m; long = steps-of m; told = masks-told m v; cost = λ s h. cost-of m s h }
+
+-- ---- back from the numbers
+module _ (t : Task) (bs : Blocks) (cheap : (s : Step) → costOf t s ≤ 65535) (few : length bs ≤ 256) where
+  -- the largest distance
+  pub far-small : (a : Block) (d : Distance) → a .0 < length bs → farOf (distances t bs) a ≡ some d → (d .steps ≤ 255) × (d .cost ≤ 255 * 65535)
+  unfolding distances
+  far-small a d h e = let b = rounds-bound t bs 65535 cheap (length bs) a h e in (omega (arith, b .0), omega (arith, b .0, b .1))
+
+  -- a number is at most the mark for "no way", and says its distance
+  pub record Says (n : ℕ) (o : Option Distance) : Type 0 where
+    pub top : n ≤ noWay
+    pub is : decoded n ≡ o
+
+  pub coded-says : (a : Block) → a .0 < length bs → Says (codedAt (distances t bs) (a .0)) (farOf (distances t bs) a)
+  unfolding codedAt coded
+  coded-says a h = go (farOf (distances t bs) a) refl
+    where
+      go : (o : Option Distance) → farOf (distances t bs) a ≡ o → Says (coded o) o
+      go none e = record { top = omega arith; is = decoded-high noWay (omega arith) }
+      go (some d) e =
+          let s = far-small a d h e in
+          let n : ℕ = d .cost * 65536 + d .steps in
+          let c : n / 65536 ≡ d .cost = omega (arith, s .0) in
+          let k : n % 65536 ≡ d .steps = omega (arith, s .0) in
+          record {
+            top = omega (arith, s .0, s .1);
+            is = decoded-low n (omega (arith, s .0, s .1)) ∙ ap₂ {C = Option Distance} (λ (x y : ℕ). some (record { cost = x; steps = y })) c k;
+          }
+
+  -- its cost, and the mark where there is no way
+  pub cost-said : (a : Block) → a .0 < length bs → codedAt (distances t bs) (a .0) / 65536 ≡ Option·getD (Option·map (λ d. d .cost) (farOf (distances t bs) a)) (limits .«no_way»)
+  unfolding codedAt coded
+  cost-said a h = go (farOf (distances t bs) a) refl
+    where
+      go : (o : Option Distance) → farOf (distances t bs) a ≡ o → coded o / 65536 ≡ Option·getD (Option·map (λ d. d .cost) o) (limits .«no_way»)
+      go none e = refl
+      go (some d) e = omega (arith, far-small a d h e .0)

@@ -1,5 +1,5 @@
 -- A pass that lowers values, turn by turn, and the passes over all steps.
-use mathlib.Core.Path.{_≡_, refl, sym, _∙_, ap}
+use mathlib.Core.Path.{_≡_, refl, sym, _∙_}
 use mathlib.Core.Bool.{Bool, true, false, cond, false≢true}
 use mathlib.Core.Logic.{_⊎_, inl, inr, ⊎-elim}
 use mathlib.Core.List.{List}
@@ -10,7 +10,7 @@ use lib.ListN.{length, getD, set}
 use lib.Seq.{getD-set-same, getD-set-other}
 use Rattle.blocks.specs.Masks.{leadsBy}
 use Rattle.distances.specs.Arcs.{Arc}
-use Rattle.distances.specs.Turns.{weight, Better, Relaxed, Lowered, Started}
+use Rattle.distances.specs.Turns.{weight, Relaxed, Lowered, Started}
 use Rattle.distances.specs.Ways.{noWay}
 
 module _ (f : ℕ → Bool) (k : ℕ) (D : List ℕ) where

@@ -1,5 +1,5 @@
 -- The search for a nearest open block, turn by turn.
-use mathlib.Core.Path.{_≡_, refl, sym, _∙_}
+use mathlib.Core.Path.{_≡_, refl}
 use mathlib.Core.Logic.{_⊎_, inl, inr, ⊎-elim}
 use mathlib.Core.List.{List}
 use Prim.Native.Nat.{ℕ, _+_, _<_, _≤_}
@@ -7,7 +7,7 @@ use native.Mathlib.Omega.{arith}
 use borrow.Author.Count.{below-none, below-more}
 use lib.ListN.{getD}
 use Rattle.distances.specs.Ways.{noWay}
-use Rattle.distances.specs.Turns.{Nearest, Picked}
+use Rattle.distances.specs.Turns.{Picked}
 
 pub record Scan (n : ℕ) (D F : List ℕ) (best low i : ℕ) : Type 0 where
   pub low-le : low ≤ noWay

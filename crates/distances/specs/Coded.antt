@@ -8,7 +8,6 @@ use lib.Dec.{ltb}
 use lib.ListN.{getD}
 use Rattle.task.specs.declared.Step.{Step}
 use Rattle.task.specs.Loops.{tab, over}
-use Rattle.task.specs.Sizes.{limits}
 use Rattle.task.specs.Task.{Task, block, columnCount, stepCount, costOf}
 use Rattle.blocks.specs.Blocks.{Blocks}
 use Rattle.blocks.specs.Masks.{Told}

@@ -4,7 +4,7 @@ use mathlib.Core.Logic.{_⊎_}
 use mathlib.Core.List.{List}
 use lib.ListN.{getD}
 use Rattle.task.specs.Sizes.{limits}
-use Prim.Native.Nat.{ℕ, suc, _+_, _*_, _/_, _%_, _<_, _≤_}
+use Prim.Native.Nat.{ℕ, _+_, _*_, _/_, _%_, _<_, _≤_}
 
 -- a path from a block to a goal block: its cost, and its number of steps
 pub data Path (arc : ℕ → ℕ → ℕ → Type 0) (goal : ℕ → Type 0) (cost : ℕ → ℕ) : ℕ → ℕ → ℕ → Type 0 where

@@ -1,3 +1,4 @@
 pub mod TraceLaws
 pub mod FlawLaws
 pub mod RunLaws
+pub mod HopLaws

@@ -2,12 +2,11 @@ use mathlib.Core.Option.{Option, some}
 use Rattle.task.specs.declared.Block.{Block}
 use Rattle.task.specs.Task.{block}
 use Rattle.blocks.proofs.FollowLaws.{followed-none, followed-on, followed-stay, follow-block}
-use Rattle.blocks.specs.Flat.{cutAt, goesOn, followed}
-use lib.ListN.{getD}
+use Rattle.blocks.specs.Flat.{cutAt, followed}
 use native.Mathlib.Omega.{arith}
-use Prim.Native.Nat.{ℕ, _+_, _*_, _-_, _≤_, _<_}
+use Prim.Native.Nat.{ℕ, _-_, _≤_}
 use mathlib.Core.Logic.{⊎-elim}
-use mathlib.Core.Path.{_≡_, refl, sym, ap, _∙_}
+use mathlib.Core.Path.{_≡_, sym, ap, _∙_}
 use borrow.Author.Needs.{needs}
 use Rattle.blocks.proofs.block_of.Statement.{statement}
 use Rattle.blocks.proofs.block_of.Tie as tie

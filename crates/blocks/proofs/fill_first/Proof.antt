@@ -1,11 +1,11 @@
 use Rattle.task.specs.Task.{column}
 use Rattle.task.proofs.TableLaws.{columns-of, size-of}
-use mathlib.Core.Path.{_≡_, refl, sym, ap, _∙_}
-use Prim.Native.Nat.{ℕ, _+_, _*_, _-_, _^_, _≤_, _<_}
+use mathlib.Core.Path.{_≡_, sym}
+use Prim.Native.Nat.{_-_, _≤_}
 use native.Mathlib.Omega.{arith}
-use lib.ListN.{length, getD, length-set}
+use lib.ListN.{length, length-set}
 use Rattle.task.specs.Loops.{tab, over}
-use Rattle.task.proofs.LoopLaws.{over-none, over-more}
+use Rattle.task.proofs.LoopLaws.{over-none}
 use Rattle.blocks.proofs.FlatLaws.{over-set, firstSet, first-whole}
 use borrow.Author.Needs.{needs}
 use Rattle.blocks.proofs.fill_first.Statement.{statement}

@@ -1,10 +1,10 @@
-use mathlib.Core.Path.{_≡_, refl, sym, ap, _∙_}
-use Prim.Native.Nat.{ℕ, _+_, _*_, _-_, _^_, _≤_, _<_}
+use mathlib.Core.Path.{_≡_, sym, _∙_}
+use Prim.Native.Nat.{_-_, _≤_}
 use native.Mathlib.Omega.{arith}
-use lib.ListN.{length, getD, length-set}
+use lib.ListN.{length, length-set}
 use Rattle.task.specs.Loops.{tab, over}
-use Rattle.task.proofs.LoopLaws.{over-none, over-more}
-use Rattle.blocks.specs.Masks.{markSet, landsSet, landSets}
+use Rattle.task.proofs.LoopLaws.{over-none}
+use Rattle.blocks.specs.Masks.{landsSet, landSets}
 use Rattle.blocks.proofs.FlatLaws.{over-all, over-set}
 use borrow.Author.Needs.{needs}
 use Rattle.blocks.proofs.fill_lands.Statement.{statement}

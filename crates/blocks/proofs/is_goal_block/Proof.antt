@@ -1,13 +1,13 @@
-use mathlib.Core.Path.{_≡_, refl, sym, ap, _∙_}
-use mathlib.Core.Bool.{true, false}
-use Prim.Native.Nat.{ℕ, _+_, _*_, _-_, _≤_, _<_}
+use mathlib.Core.Path.{_≡_, refl, sym, _∙_}
+use mathlib.Core.Bool.{true}
+use Prim.Native.Nat.{_-_, _≤_}
 use native.Mathlib.Omega.{arith}
 use lib.ListN.{getD}
 use borrow.Author.Tests.{not-true, not-false}
 use Rattle.task.specs.Loops.{all}
 use Rattle.task.proofs.LoopLaws.{all-more, all-fails}
 use Rattle.blocks.specs.Flat.{past}
-use Rattle.blocks.specs.Masks.{lies, passes, leadsBy, goalBy}
+use Rattle.blocks.specs.Masks.{lies, goalBy}
 use borrow.Author.Needs.{needs}
 use Rattle.blocks.proofs.is_goal_block.Statement.{statement}
 use Rattle.blocks.proofs.is_goal_block.Tie as tie

@@ -1,6 +1,5 @@
-use mathlib.Core.Path.{_≡_, refl, sym, ap, _∙_}
 use Rattle.blocks.specs.Blocks.{common, without}
-use Rattle.blocks.specs.Flat.{past, laid, cutIn}
+use Rattle.blocks.specs.Flat.{past, cutIn}
 use borrow.Author.Needs.{needs}
 use Rattle.blocks.proofs.make_cut.Statement.{statement}
 use Rattle.blocks.proofs.make_cut.Tie as tie

@@ -1,6 +1,5 @@
-use mathlib.Core.Path.{_≡_, refl, sym, _∙_}
+use mathlib.Core.Path.{sym, _∙_}
 use Prim.Native.Nat.{_-_}
-use native.Mathlib.Omega.{arith}
 use Rattle.blocks.specs.Blocks.{only}
 use Rattle.blocks.proofs.MaskLaws.{mark-none, mark-high, mark-low, shift-one}
 use borrow.Author.Needs.{needs}

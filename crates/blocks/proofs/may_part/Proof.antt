@@ -1,7 +1,6 @@
 use borrow.Author.Tests.{eq-eqb, ne-eqb}
 use Rattle.blocks.specs.Blocks.{isEmpty, without}
 use Rattle.blocks.specs.Masks.{parts}
-use borrow.Author.Needs.{needs}
 use Rattle.blocks.proofs.may_part.Statement.{statement}
 use Rattle.blocks.proofs.may_part.Tie as tie
 use Rattle.blocks.proofs.may_part.Reads as reads

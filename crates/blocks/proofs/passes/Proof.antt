@@ -1,7 +1,6 @@
 use borrow.Author.Tests.{eq-eqb, ne-eqb}
 use Rattle.blocks.specs.Blocks.{common, isEmpty}
 use Rattle.blocks.specs.Masks.{lies, passes}
-use borrow.Author.Needs.{needs}
 use Rattle.blocks.proofs.passes.Statement.{statement}
 use Rattle.blocks.proofs.passes.Tie as tie
 use Rattle.blocks.proofs.passes.Reads as reads

@@ -1,12 +1,9 @@
-use mathlib.Core.Path.{_≡_, refl, sym, _∙_, ap}
-use mathlib.Core.Bool.{true, false, cond}
-use mathlib.Core.Logic.{⊎-elim}
-use Prim.Native.Nat.{ℕ, _≤_, _<_, _-_, _*_, _+_, _^_}
+use mathlib.Core.Path.{_≡_, sym}
+use Prim.Native.Nat.{_≤_, _-_}
 use native.Mathlib.Omega.{arith}
-use lib.ListN.{length, getD, length-set}
 use Rattle.blocks.specs.Blocks.{common, isEmpty}
 use Rattle.blocks.specs.Flat.{past}
-use Rattle.distances.specs.Arcs.{bitsBelow, keeps, parted, keptMask, apartMask}
+use Rattle.distances.specs.Arcs.{bitsBelow, parted, apartMask}
 use Rattle.distances.proofs.ArcLaws.{bits-none, mask-room, mask-more}
 use borrow.Author.Needs.{needs}
 use Rattle.distances.proofs.apart_mask.Statement.{statement}

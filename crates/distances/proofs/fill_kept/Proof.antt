@@ -1,11 +1,9 @@
-use mathlib.Core.Path.{_≡_, refl, sym, _∙_, ap}
-use mathlib.Core.Bool.{true, false, cond}
-use mathlib.Core.Logic.{⊎-elim}
-use Prim.Native.Nat.{ℕ, _≤_, _<_, _-_, _*_, _+_, _^_}
+use mathlib.Core.Path.{_≡_}
+use Prim.Native.Nat.{ℕ, _≤_, _<_, _-_}
 use native.Mathlib.Omega.{arith}
 use lib.ListN.{length, getD, length-set}
 use borrow.Author.Count.{below-none}
-use Rattle.distances.specs.Arcs.{keptMask, apartMask}
+use Rattle.distances.specs.Arcs.{keptMask}
 use Rattle.distances.proofs.ArcLaws.{filled-first}
 use borrow.Author.Needs.{needs}
 use Rattle.distances.proofs.fill_kept.Statement.{statement}

@@ -1,9 +1,6 @@
-use mathlib.Core.Path.{_≡_, refl, sym, _∙_, ap}
-use mathlib.Core.Bool.{true, false, cond}
 use mathlib.Core.Logic.{⊎-elim}
-use Prim.Native.Nat.{ℕ, _≤_, _<_, _-_, _*_, _+_, _^_}
+use Prim.Native.Nat.{_≤_, _-_}
 use native.Mathlib.Omega.{arith}
-use lib.ListN.{length, getD, length-set}
 use Rattle.distances.proofs.PickLaws.{Scan, scan-start, scan-skip, scan-take, scan-end}
 use borrow.Author.Needs.{needs}
 use Rattle.distances.proofs.nearest.Statement.{statement}

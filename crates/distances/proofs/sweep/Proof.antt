@@ -1,9 +1,9 @@
-use mathlib.Core.Path.{_≡_, refl, sym, _∙_, ap}
-use mathlib.Core.Bool.{true, false, cond, false≢true}
+use mathlib.Core.Path.{_≡_, sym, _∙_, ap}
+use mathlib.Core.Bool.{true, false, false≢true}
 use mathlib.Core.Logic.{⊎-elim}
-use Prim.Native.Nat.{ℕ, _≤_, _<_, _-_, _*_, _+_, _^_, _%_}
+use Prim.Native.Nat.{_≤_, _-_, _^_, _%_}
 use native.Mathlib.Omega.{arith}
-use lib.ListN.{length, getD, length-set}
+use lib.ListN.{length, length-set}
 use Rattle.distances.specs.Turns.{Lowered}
 use Rattle.distances.specs.Arcs.{told}
 use Rattle.distances.proofs.LowerLaws.{lowered-none, lowered-skip, lowered-set, lowered-end}

@@ -1,9 +1,7 @@
-use mathlib.Core.Path.{_≡_, refl, sym, _∙_, ap}
-use mathlib.Core.Bool.{true, false, cond}
-use mathlib.Core.Logic.{⊎-elim}
-use Prim.Native.Nat.{ℕ, _≤_, _<_, _-_, _*_, _+_, _^_}
+use mathlib.Core.Path.{_≡_, sym, _∙_, ap}
+use mathlib.Core.Bool.{cond}
+use Prim.Native.Nat.{_≤_, _-_, _^_}
 use native.Mathlib.Omega.{arith}
-use lib.ListN.{length, getD, length-set}
 use Rattle.distances.specs.Arcs.{bitsBelow, takenIn, takeWord}
 use Rattle.distances.proofs.ArcLaws.{bits-none, mask-room, mask-more}
 use borrow.Author.Needs.{needs}

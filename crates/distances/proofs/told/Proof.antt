@@ -1,5 +1,4 @@
 use borrow.Author.Tests.{eq-eqb, ne-eqb}
-use borrow.Author.Needs.{needs}
 use Rattle.distances.proofs.told.Statement.{statement}
 use Rattle.distances.proofs.told.Tie as tie
 use Rattle.distances.proofs.told.Reads as reads

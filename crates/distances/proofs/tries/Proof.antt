@@ -2,12 +2,10 @@ use Rattle.distances.proofs.ArcLaws.{lowered-same, arc-told}
 use Rattle.distances.proofs.LowerLaws.{Part, part-none, part-more, part-end}
 use Rattle.distances.specs.Arcs.{costIn}
 use Rattle.blocks.specs.Masks.{leadsBy}
-use lib.ListN.{length, getD, length-set}
+use lib.ListN.{length}
 use native.Mathlib.Omega.{arith}
-use Prim.Native.Nat.{ℕ, _≤_, _<_, _-_, _*_, _+_, _^_, _/_}
-use mathlib.Core.Logic.{⊎-elim}
-use mathlib.Core.Bool.{true, false, cond}
-use mathlib.Core.Path.{_≡_, refl, sym, _∙_, ap}
+use Prim.Native.Nat.{_≤_, _-_, _+_, _/_}
+use mathlib.Core.Path.{_≡_}
 use borrow.Author.Needs.{needs}
 use Rattle.distances.proofs.tries.Statement.{statement}
 use Rattle.distances.proofs.tries.Tie as tie

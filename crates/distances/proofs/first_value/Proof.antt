@@ -1,0 +1,16 @@
+use borrow.Author.Needs.{needs}
+use Rattle.distances.proofs.first_value.Statement.{statement}
+use Rattle.distances.proofs.first_value.Tie as tie
+use Rattle.distances.proofs.first_value.Reads as reads
+use Rattle.distances.proofs.first_value.Lts as lts
+
+-- src/lib.rt:181:1
+returns : tie.Need-returns
+returns c = search needs
+
+-- src/lib.rt:181:1
+returns-2 : tie.Need-returns-2
+returns-2 c = search needs
+
+pub first-value-spec : {M : Type 1} → statement M
+first-value-spec = tie.close (tie.spec returns returns-2)

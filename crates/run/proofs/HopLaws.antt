@@ -1,0 +1,155 @@
+-- The search for the next hop on numbers finds the one of the definitions.
+use mathlib.Core.Path.{_≡_, refl, sym, _∙_, ap, ap₂}
+use mathlib.Core.Logic.{_⊎_, ⊎-elim, _≢_}
+use mathlib.Core.Bool.{Bool, true, false, _&&_, and-false}
+use mathlib.Core.List.{List}
+use mathlib.Core.Option.{Option, none, some}
+use Prim.Native.Nat.{ℕ, zero, suc, _+_, _-_, _*_, _<_, _≤_}
+use native.Mathlib.Nat.{not-suc-le-zero}
+use native.Mathlib.Omega.{arith}
+use native.Mathlib.Numerals.{add-one}
+use lib.Dec.{eqb}
+use lib.ListN.{length}
+use borrow.Author.Tests.{eq-eqb, ne-eqb}
+use Rattle.task.specs.declared.Step.{Step}
+use Rattle.task.specs.declared.Block.{Block}
+use Rattle.task.specs.Loops.{first, when}
+use Rattle.task.specs.Task.{Task, Accepted, step, block, costOf}
+use Rattle.task.proofs.LoopLaws.{below-suc}
+use Rattle.blocks.specs.Blocks.{Blocks}
+use Rattle.blocks.specs.Flat.{blocksIn}
+use Rattle.blocks.proofs.FlatLaws.{blocks-length}
+use Rattle.blocks.proofs.MaskLaws.{leads-by}
+use Rattle.blocks.proofs.PartLaws.{same-or-not}
+use Rattle.distances.specs.Distances.{Distance, farOf, plus, leadsTo, distances}
+use Rattle.distances.specs.Ways.{noWay}
+use Rattle.distances.specs.Coded.{coded, codedAt, Tables}
+use Rattle.distances.proofs.JoinLaws.{far-small}
+use Rattle.run.specs.declared.Next.{Next}
+use Rattle.run.specs.Run.{keeps, nextHop}
+use Rattle.run.specs.Hops.{keepsIn, fitsBy, hop, nextIn, nextOf, nextBy, hopOf, Holds, NextIs}
+
+-- ---- what is found first, turn by turn
+module _ {A : Type 0} (f : ℕ → Option A) where
+  pub first-nothing : first 0 f ≡ none
+  unfolding first
+  first-nothing = refl
+
+  pub first-more : (n : ℕ) → first n f ≡ none → f n ≡ none → first (n + 1) f ≡ none
+  unfolding first
+  first-more n h k = rw (add-one, h, k)
+
+  pub first-here : (n i : ℕ) {x : A} → i < n → first i f ≡ none → f i ≡ some x → first n f ≡ some x
+  unfolding first
+  first-here zero i l h k = absurd (not-suc-le-zero l)
+  first-here (suc n) i l h k =
+      ⊎-elim (λ (e : i ≡ n). rw (← e, h, k)) (λ (b : i < n). rw (first-here n i b h k)) (below-suc l)
+
+first-ext : {A : Type 0} (n : ℕ) (f g : ℕ → Option A) → ((i : ℕ) → i < n → f i ≡ g i) → first n f ≡ first n g
+unfolding first
+first-ext zero f g e = refl
+first-ext (suc n) f g e = rw (first-ext n f g (λ i h. e i (omega arith)), e n (omega arith))
+
+-- the two loops
+module _ (fits : ℕ → ℕ → Bool) where
+  pub next-no : (s b : ℕ) (r : Bool) → r ≡ fits s b → r ≡ false → nextIn fits s b ≡ none
+  unfolding nextIn
+  next-no s b r e h = rw (← e, h)
+
+  pub next-yes : (s b : ℕ) (r : Bool) → r ≡ fits s b → r ≡ true → nextIn fits s b ≡ some (hop s b)
+  unfolding nextIn
+  next-yes s b r e h = rw (← e, h)
+
+  -- the search stands at a hop, or has found none
+  pub found : (steps count s b : ℕ) → s < steps → b < count → first s (nextOf count fits) ≡ none → first b (nextIn fits s) ≡ none → nextIn fits s b ≡ some (hop s b)
+      → nextBy steps count fits ≡ some (hop s b)
+  unfolding nextBy nextOf
+  found steps count s b hs hb no-step no-block here = first-here (λ s. first count (nextIn fits s)) steps s hs no-step (first-here (nextIn fits s) count b hb no-block here)
+
+-- ---- the numbers keep a distance where the distances do
+keeps-none : (d : Distance) (w : ℕ) → d .steps ≤ 255 → d .cost ≤ 255 * 65535 → keepsIn (coded (some d)) w (coded none) ≡ keeps d w none
+unfolding keepsIn coded keeps
+keeps-none d w s c = ne-eqb _ _ (λ (e : d .cost * 65536 + d .steps ≡ noWay + (w * 65536 + 1)). omega arith)
+
+keeps-some : (d e : Distance) (w : ℕ) → d .steps ≤ 255 → e .steps ≤ 255 → keepsIn (coded (some d)) w (coded (some e)) ≡ keeps d w (some e)
+unfolding keepsIn coded keeps plus
+keeps-some d e w s s′ =
+    let x : ℕ = d .cost * 65536 + d .steps in
+    let y : ℕ = e .cost * 65536 + e .steps + (w * 65536 + 1) in
+    ⊎-elim
+    (λ (c : w + e .cost ≡ d .cost).
+    ⊎-elim
+    (λ (n : suc (e .steps) ≡ d .steps). let q : x ≡ y = omega arith in eq-eqb x y q ∙ sym (rw (eq-eqb (w + e .cost) (d .cost) c, eq-eqb (suc (e .steps)) (d .steps) n)))
+    (λ (n : suc (e .steps) ≢ d .steps). ne-eqb x y (λ (z : x ≡ y). n (omega arith)) ∙ sym (rw (ne-eqb (suc (e .steps)) (d .steps) n, and-false (eqb (w + e .cost) (d .cost)))))
+    (same-or-not (suc (e .steps)) (d .steps)))
+    (λ (c : w + e .cost ≢ d .cost). ne-eqb x y (λ (z : x ≡ y). c (omega arith)) ∙ sym (rw (ne-eqb (w + e .cost) (d .cost) c)))
+    (same-or-not (w + e .cost) (d .cost))
+
+-- as code tests it, without a sum that may be too large
+pub keeps-low : (own w next : ℕ) → own ≤ next → false ≡ keepsIn own w next
+unfolding keepsIn
+keeps-low own w next h = sym (ne-eqb own (next + (w * 65536 + 1)) (λ z. omega arith))
+
+pub keeps-high : (own w next : ℕ) → next < own → eqb (own - next) (w * 65536 + 1) ≡ keepsIn own w next
+unfolding keepsIn
+keeps-high own w next h =
+    ⊎-elim
+    (λ (e : own - next ≡ w * 65536 + 1). eq-eqb _ _ e ∙ sym (eq-eqb own (next + (w * 65536 + 1)) (omega arith)))
+    (λ (e : own - next ≢ w * 65536 + 1). ne-eqb _ _ e ∙ sym (ne-eqb own (next + (w * 65536 + 1)) (λ z. e (omega arith))))
+    (same-or-not (own - next) (w * 65536 + 1))
+
+turned : (a b : Bool) → (a && b) ≡ (b && a)
+turned true true = refl
+turned true false = refl
+turned false true = refl
+turned false false = refl
+
+-- ---- the search on the tables is the one of the definitions
+module _ (t : Task) (columns steps count : ℕ) (needs lands goals costs sets dist : List ℕ) (tables : Tables t columns steps needs lands goals costs)
+    (cheap : (s : Step) → costOf t s ≤ 65535) (few : count ≤ 256) (holds : Holds (distances t (blocksIn columns count sets)) count dist) where
+  bs : Blocks
+  bs = blocksIn columns count sets
+
+  long : length bs ≡ count
+  unfolding bs
+  long = blocks-length columns count sets
+
+  keeps-same : (a b : Block) (d : Distance) (w : ℕ) → a .0 < count → b .0 < count → farOf (distances t bs) a ≡ some d
+      → keepsIn (codedAt (distances t bs) (a .0)) w (codedAt (distances t bs) (b .0)) ≡ keeps d w (farOf (distances t bs) b)
+  unfolding codedAt
+  keeps-same a b d w ha hb e = rw e (go (farOf (distances t bs) b) refl)
+    where
+      l : length bs ≤ 256
+      l = omega (arith, long)
+
+      sd : (d .steps ≤ 255) × (d .cost ≤ 255 * 65535)
+      sd = far-small t bs cheap l a d (rw long ha) e
+
+      go : (o : Option Distance) → farOf (distances t bs) b ≡ o → keepsIn (coded (some d)) w (coded o) ≡ keeps d w o
+      go none q = keeps-none d w (sd .0) (sd .1)
+      go (some k) q = keeps-some d k w (sd .0) (far-small t bs cheap l b k (rw long hb) q .0)
+
+  fits-same : (a : Block) (d : Distance) → a .0 < count → farOf (distances t bs) a ≡ some d → (s b : ℕ) → s < steps → b < count
+      → fitsBy columns needs lands costs sets dist (a .0) s b ≡ (leadsTo t bs (step s) a (block b) && keeps d (costOf t (step s)) (farOf (distances t bs) (block b)))
+  unfolding fitsBy bs Holds leadsTo
+  fits-same a d ha e s b hs hb =
+      rw (holds (a .0) ha, holds b hb, ← tables .cost (step s) hs)
+      (ap₂ (λ (x y : Bool). x && y) (keeps-same a (block b) d (costOf t (step s)) ha hb e)
+      (leads-by t columns count needs lands goals sets (tables .told) (tables .wide) (step s) a (block b) (rw (tables .long) hs) ha hb)
+      ∙ turned (keeps d (costOf t (step s)) (farOf (distances t bs) (block b))) _)
+
+  -- the search finds the next hop
+  pub next-is : (a : Block) (d : Distance) → a .0 < count → farOf (distances t (blocksIn columns count sets)) a ≡ some d
+      → nextBy steps count (fitsBy columns needs lands costs sets dist (a .0)) ≡ nextHop t (blocksIn columns count sets) (distances t (blocksIn columns count sets)) a d
+  unfolding nextBy nextOf nextIn nextHop bs
+  next-is a d ha e =
+      rw (tables .long, long)
+      (first-ext steps _ _ (λ s hs. first-ext count _ _ (λ b hb. ap (λ (x : Bool). when x (hop s b)) (fits-same a d ha e s b hs hb))))
+
+-- what the search answers, of the tables and of any task whose tables they are
+pub answers : (columns steps count : ℕ) (needs lands costs sets dist : List ℕ) (a : Block) (r : Next) → count ≤ 256 → a .0 < count
+    → hopOf r ≡ nextBy steps count (fitsBy columns needs lands costs sets dist (a .0))
+    → (hopOf r ≡ nextBy steps count (fitsBy columns needs lands costs sets dist (a .0)))
+    × ((t : Task) (goals : List ℕ) → Accepted t → Tables t columns steps needs lands goals costs → Holds (distances t (blocksIn columns count sets)) count dist → NextIs t (blocksIn columns count sets) a r)
+unfolding NextIs
+answers columns steps count needs lands costs sets dist a r few h e = (e, (λ t goals v tables holds d q. e ∙ next-is t columns steps count needs lands goals costs sets dist tables (v .tenths) few holds a d h q))
