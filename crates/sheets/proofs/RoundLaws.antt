@@ -130,12 +130,12 @@ pub bits-mono : (n a b : ℕ) → a ≤ b → modelBits n a ≤ modelBits n b
 unfolding modelBits
 bits-mono n a b h = omega (arith, mul-le-mul {n₁ = a} {m₁ = 16 + n * 12} {n₂ = b} {m₂ = 16 + n * 12} h (le-refl (16 + n * 12)))
 
-base : (n m : ℕ) → 17 + n * 17 ≤ modelBits n m
+pub base : (n m : ℕ) → 17 + n * 17 ≤ modelBits n m
 unfolding modelBits
 base n m = omega arith
 
--- bytes that have the values of accepted fields, and are as long as their sheet, have the same fields
-module _ (s : List ℕ) (p : Source) (n m : ℕ) (ok : Fine p n m) (r : Reads s p n m) (long : length s ≡ modelBytes n m) where
+-- bytes that have the values of accepted fields, and are as long as their sheet or longer, have the same fields
+module _ (s : List ℕ) (p : Source) (n m : ℕ) (ok : Fine p n m) (r : Reads s p n m) (long : modelBytes n m ≤ length s) where
   here : (at w : ℕ) → at + w ≤ modelBits n m → onSheet s at w .here ≡ true
   here at w h = sheet-here s at w (omega (arith, whole-bytes n m))
 
@@ -206,7 +206,7 @@ module _ (p : Source) (ok : judged (entries p) ≡ 0) (costs : (j : ℕ) → j <
   -- the sheet of an accepted model has its fields
   pub written-same : Same (ofSheet T) p n m
   unfolding ofSheet
-  written-same = subst (λ (x : ℕ). Same (sheetWith T x (stepsOf T)) p n m) (sym (written-reads .columns)) (subst (λ (y : ℕ). Same (sheetWith T n y) p n m) (sym (written-reads .steps)) (reads-same T p n m good written-reads written-length))
+  written-same = subst (λ (x : ℕ). Same (sheetWith T x (stepsOf T)) p n m) (sym (written-reads .columns)) (subst (λ (y : ℕ). Same (sheetWith T n y) p n m) (sym (written-reads .steps)) (reads-same T p n m good written-reads (omega (arith, written-length))))
 
   pub written-entries : entries (ofSheet T) ≡ entries p
   unfolding entries
