@@ -1,19 +1,18 @@
 -- A model written and read back is the same model, and the same task.
-use Prim.Native.Nat.{ℕ, _+_, _*_, _/_, _%_, _≤_, _<_}
+use Prim.Native.Nat.{ℕ, _*_, _/_, _%_, _<_}
 use native.Mathlib.Omega.{arith}
 use native.Mathlib.Decide.{decLt}
-use mathlib.Core.Path.{_≡_, refl, sym, ap, ap₂, _∙_}
+use mathlib.Core.Path.{_≡_, ap, ap₂, _∙_}
 use mathlib.Core.List.{List}
-use lib.Dec.{ltb}
 use borrow.Author.Tests.{eq-eqb, lt-ltb, le-ltb}
 use Rattle.task.specs.declared.Mark.{Mark}
 use Rattle.task.specs.Loops.{tab, over}
-use Rattle.task.specs.Task.{Task, position}
-use Rattle.task.specs.Tables.{mark, marked}
+use Rattle.task.specs.Task.{position}
+use Rattle.task.specs.Tables.{mark}
 use Rattle.task.proofs.LoopLaws.{tab-ext}
 use Rattle.fields.specs.Judging.{Field, judged}
 use Rattle.fields.specs.Packing.{sheetOf}
-use Rattle.sheets.specs.ModelSheet.{Source, ColumnFields, MarkFields, columnsIn, stepsIn, entries, ofSheet, judgePart}
+use Rattle.sheets.specs.ModelSheet.{Source, ColumnFields, MarkFields, columnsIn, stepsIn, entries, ofSheet}
 use Rattle.sheets.specs.Holding.{columnSaid, changeSaid, stepSaid, taskIn, unused, markPlace, markTable, modelOf}
 use Rattle.sheets.proofs.RoundLaws.{Same, written-same, written-accepted}
 use Rattle.unpack.specs.Unpacking.{answer, unpacked}

@@ -4,11 +4,10 @@ use native.Mathlib.Nat.{suc-mul, add-zero, zero-add, mul-le-mul, le-refl, mul-on
 use native.Mathlib.Omega.{arith}
 use native.Mathlib.Numerals.{add-one}
 use mathlib.Core.Path.{_≡_, refl, sym, ap, ap₂, _∙_, subst}
-use mathlib.Core.Bool.{Bool, true, false}
+use mathlib.Core.Bool.{true}
 use mathlib.Core.List.{List, [], _∷_, _++_}
 use lib.ListN.{length, getD, take, drop, length-append, List·getD-append}
 use lib.Seq.{drop-cons, drop-drop, take-add}
-use lib.Dec.{ltb}
 use borrow.Author.Tests.{eq-eqb, ltb-true, lt-ltb, le-ltb}
 use Rattle.task.specs.Loops.{over}
 use Rattle.fields.specs.Judging.{Field, inTable, given, judged, refusal, each}
@@ -16,7 +15,7 @@ use Rattle.fields.specs.Packing.{sheetOf}
 use Rattle.fields.proofs.JudgingLaws.{each-ext, refusal-append, go, last-went, passes, no-checks}
 use Rattle.fields.proofs.PlaceLaws.{each-at}
 use Rattle.fields.proofs.PutLaws.{Bytes}
-use Rattle.sheets.specs.ModelSheet.{Source, ColumnFields, MarkFields, columnsIn, stepsIn, entries, fieldsPart, modelBytes, columnsOf, stepsOf, columnOn, costOn, marksOn, sheetWith, ofSheet, sheetChecks, judgePart, judgeSheet}
+use Rattle.sheets.specs.ModelSheet.{Source, ColumnFields, MarkFields, columnsIn, stepsIn, entries, modelBytes, columnsOf, stepsOf, sheetWith, ofSheet, sheetChecks, judgePart, judgeSheet}
 use Rattle.sheets.specs.LentTables.{columnValues, costValue, markValues, stepValues, frameOf, costsOf, marksOf, columnIn, marksIn, ofTables, readChecks, writeChecks}
 use Rattle.sheets.proofs.TableLaws.{column-length, cost-length, pair-length, row-length, frame-length, costs-length, marks-length}
 use Rattle.sheets.proofs.RoundLaws.{Fine, Same, same-fields, same-field, accepted, written-same, written-accepted, own-fine, exact-length, read-write}
