@@ -20,7 +20,7 @@ use Rattle.sheets.specs.Holding.{modelOf, noModel}
 use Rattle.unpack.specs.Unpacking.{answer, unpacked}
 use Rattle.reading.specs.declared.ModelRead.the-variants.{Held, Refused}
 use Rattle.reading.specs.Reading.{outcome, number, reading}
-use Rattle.writing.specs.declared.write.SheetWritten.the-variants.{Bytes as SheetBytes, Refused as NotWritten}
+use Rattle.writing.specs.declared.write.SheetWritten.the-variants.{Sheet, Refused as NotWritten}
 use Rattle.writing.specs.Writing.{Outcome as WriteOutcome, outcome as written, number as writeNumber, writing}
 
 -- every field has its number
@@ -105,7 +105,7 @@ module _ (p : Source) (sheet : List ℕ) where
   unfolding writing writeNumber
   write-number = split (eqb W 0) refl
     where
-      split : (b : Bool) → eqb W 0 ≡ b → writeNumber (pick b (written (SheetBytes (modelBytes (columnsIn p) (stepsIn p))) (over (sheetOf (entries p)) sheet)) (written (NotWritten W) sheet) .answer) ≡ W
+      split : (b : Bool) → eqb W 0 ≡ b → writeNumber (pick b (written (Sheet (modelBytes (columnsIn p) (stepsIn p))) (over (sheetOf (entries p)) sheet)) (written (NotWritten W) sheet) .answer) ≡ W
       split true h = sym (eqb-true W 0 h)
       split false h = refl
 

@@ -22,7 +22,7 @@ use Rattle.sheets.proofs.RoundLaws.{Fine, Same, same-fields, same-field, accept
 use Rattle.reading.specs.declared.ModelRead.the-variants.{Held}
 use Rattle.reading.specs.Reading.{outcome, reading}
 use Rattle.sheets.proofs.SheetLaws.{sheet-fine}
-use Rattle.writing.specs.declared.write.SheetWritten.the-variants.{Bytes as SheetBytes}
+use Rattle.writing.specs.declared.write.SheetWritten.the-variants.{Sheet}
 use Rattle.writing.specs.Writing.{outcome as written, writing}
 
 -- ---- what the tables of a model hold goes by its fields
@@ -245,10 +245,10 @@ module _ (s : List ℕ) (ok : judgeSheet s ≡ 0) (bs : Bytes s) (f c k : List �
   unfolding ofSheet sheetWith
   again = filled-entries (ofSheet s) (own-fine s ok) f c k
 
-  pub bytes-back : (sheet : List ℕ) → length s ≤ length sheet → writing R sheet ≡ written (SheetBytes (length s)) (over s sheet)
+  pub bytes-back : (sheet : List ℕ) → length s ≤ length sheet → writing R sheet ≡ written (Sheet (length s)) (over s sheet)
   unfolding writing ofTables
   bytes-back sheet h =
-      simp (eq-eqb (refusal (writeChecks R sheet)) 0 no-write-refusal) (λ t. written (SheetBytes (sym (exact-length s ok) t)) (over ((ap sheetOf again ∙ read-write s ok bs) t) sheet))
+      simp (eq-eqb (refusal (writeChecks R sheet)) 0 no-write-refusal) (λ t. written (Sheet (sym (exact-length s ok) t)) (over ((ap sheetOf again ∙ read-write s ok bs) t) sheet))
     where
       room : modelBytes (columnsIn R) (stepsIn R) ≤ length sheet
       room = subst (λ (x : ℕ). x ≤ length sheet) (exact-length s ok) h
