@@ -4,3 +4,4 @@ pub mod ModelBack
 pub mod Largest
 pub mod Examples
 pub mod Refusals
+pub mod SameModel
