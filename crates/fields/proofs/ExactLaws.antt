@@ -1,12 +1,12 @@
 -- 01, "Refusal numbers": a number is given exactly when its row applies and no earlier check does.
-use Prim.Native.Nat.{ℕ, zero, suc, _+_, _≤_, _<_, zero-le, suc-le-suc}
+use Prim.Native.Nat.{ℕ, zero, suc, _+_, _<_, zero-le, suc-le-suc}
 use native.Mathlib.Nat.{le-of-suc-le-suc, not-suc-le-zero}
 use native.Mathlib.Omega.{arith}
-use mathlib.Core.Path.{_≡_, refl, sym, ap, _∙_}
+use mathlib.Core.Path.{_≡_, refl, sym, _∙_}
 use mathlib.Core.Bool.{Bool, true, false}
 use mathlib.Core.List.{List, [], _∷_, _++_}
 use lib.ListN.{length, getD}
-use Rattle.fields.specs.Judging.{Entry, Check, check, pick, _then_, checksOf, refusal, each}
+use Rattle.fields.specs.Judging.{Entry, Check, check, checksOf, refusal, each}
 use Rattle.fields.proofs.JudgingLaws.{stop, go, no-checks}
 
 abbrev pub noCheck : Check

@@ -92,10 +92,6 @@ unfolding refusal
 passed n b cs z h = let r = neither (pick b n 0) (refusal cs) h in (picked n b z (r .0), r .1)
 
 -- ---- a loop that judges f 0, f 1, .. and holds that none before i refused: it goes on, stops at the refusal r, or ends
-pub each-none : {A : Type 0} (f : ℕ → List A) → each 0 f ≡ []
-unfolding each
-each-none f = refl
-
 pub each-more : {A : Type 0} (n : ℕ) (f : ℕ → List A) → each (n + 1) f ≡ each n f ++ f n
 unfolding each
 each-more n f = rw add-one refl

@@ -4,6 +4,7 @@ ghost use mathlib.Core.List.{[], _∷_};
 ghost use Prim.Native.Nat.{_+_, _*_, _≤_, _<_};
 ghost use lib.Dec.{ltb};
 ghost use lib.ListN.{length};
+ghost use Rattle.task.specs.Sizes.{limits};
 ghost use Rattle.fields.specs.Judging.{check, refusal, each};
 ghost use Rattle.fields.specs.Places.{puts};
 ghost use Rattle.sheets.specs.ModelSheet.{columnsOf, columnOn, costOn, marksOn};
@@ -21,7 +22,7 @@ pub enum ModelRead {
 
 // 8 where a table has too few places, else 0.
 fn judge_places(frame: usize, costs: usize, marks: usize, n: usize, m: usize) -> u8
-    requires { ⌜ (n ≤ 16) × (m ≤ 128) ⌝ }
+    requires { ⌜ (n ≤ limits .columns) × (m ≤ limits .steps) ⌝ }
     ensures { λ r. ⌜ r ≡ refusal (check 8 (ltb frame (n * 3)) ∷ check 8 (ltb costs m) ∷ check 8 (ltb marks (m * (n * 2))) ∷ []) ⌝ }
 {
     if frame < n * 3 {
@@ -37,7 +38,7 @@ fn judge_places(frame: usize, costs: usize, marks: usize, n: usize, m: usize) ->
 }
 
 fn fill_column(s: &[u8], i: usize, frame: &mut [u8])
-    requires { ⌜ (i < 16) × (i * 3 + 3 ≤ length (now frame)) ⌝ }
+    requires { ⌜ (i < limits .columns) × (i * 3 + 3 ≤ length (now frame)) ⌝ }
     ensures { λ _. ⌜ now (frame .exit) ≡ puts (i * 3) (columnValues (columnOn (now (s .entry))) i) (now (frame .entry)) ⌝ }
 {
     let at = 17 + i * 17;
@@ -48,7 +49,7 @@ fn fill_column(s: &[u8], i: usize, frame: &mut [u8])
 }
 
 fn fill_frame(s: &[u8], n: usize, frame: &mut [u8])
-    requires { ⌜ (n ≤ 16) × (n * 3 ≤ length (now frame)) ⌝ }
+    requires { ⌜ (n ≤ limits .columns) × (n * 3 ≤ length (now frame)) ⌝ }
     ensures { λ _. ⌜ now (frame .exit) ≡ puts 0 (each n (columnValues (columnOn (now (s .entry))))) (now (frame .entry)) ⌝ }
 {
     let mut i: usize = 0;
@@ -59,7 +60,7 @@ fn fill_frame(s: &[u8], n: usize, frame: &mut [u8])
 }
 
 fn fill_costs(s: &[u8], n: usize, m: usize, costs: &mut [u16])
-    requires { ⌜ (n ≤ 16) × (m ≤ 128) × (m ≤ length (now costs)) ⌝ }
+    requires { ⌜ (n ≤ limits .columns) × (m ≤ limits .steps) × (m ≤ length (now costs)) ⌝ }
     ensures { λ _. ⌜ now (costs .exit) ≡ puts 0 (each m (costValue (costOn (now (s .entry)) n))) (now (costs .entry)) ⌝ }
 {
     let mut j: usize = 0;
@@ -71,7 +72,7 @@ fn fill_costs(s: &[u8], n: usize, m: usize, costs: &mut [u16])
 
 // The marks of step j at column i.
 fn fill_pair(s: &[u8], n: usize, j: usize, i: usize, marks: &mut [u8])
-    requires { ⌜ (n ≤ 16) × (j < 128) × (i < 16) × (j * (n * 2) + i * 2 + 2 ≤ length (now marks)) ⌝ }
+    requires { ⌜ (n ≤ limits .columns) × (j < limits .steps) × (i < limits .columns) × (j * (n * 2) + i * 2 + 2 ≤ length (now marks)) ⌝ }
     ensures { λ _. ⌜ now (marks .exit) ≡ puts (j * (n * 2) + i * 2) (markValues (marksOn (now (s .entry)) n) j i) (now (marks .entry)) ⌝ }
 {
     let need = model_bits(n, j) + 16 + i * 12;
@@ -82,7 +83,7 @@ fn fill_pair(s: &[u8], n: usize, j: usize, i: usize, marks: &mut [u8])
 }
 
 fn fill_step(s: &[u8], n: usize, j: usize, marks: &mut [u8])
-    requires { ⌜ (n ≤ 16) × (j < 128) × (j * (n * 2) + n * 2 ≤ length (now marks)) ⌝ }
+    requires { ⌜ (n ≤ limits .columns) × (j < limits .steps) × (j * (n * 2) + n * 2 ≤ length (now marks)) ⌝ }
     ensures { λ _. ⌜ now (marks .exit) ≡ puts (j * (n * 2)) (stepValues (marksOn (now (s .entry)) n) n j) (now (marks .entry)) ⌝ }
 {
     let mut i: usize = 0;
@@ -93,7 +94,7 @@ fn fill_step(s: &[u8], n: usize, j: usize, marks: &mut [u8])
 }
 
 fn fill_marks(s: &[u8], n: usize, m: usize, marks: &mut [u8])
-    requires { ⌜ (n ≤ 16) × (m ≤ 128) × (m * (n * 2) ≤ length (now marks)) ⌝ }
+    requires { ⌜ (n ≤ limits .columns) × (m ≤ limits .steps) × (m * (n * 2) ≤ length (now marks)) ⌝ }
     ensures { λ _. ⌜ now (marks .exit) ≡ puts 0 (each m (stepValues (marksOn (now (s .entry)) n) n)) (now (marks .entry)) ⌝ }
 {
     let mut j: usize = 0;

@@ -1,5 +1,5 @@
 -- 01, "Sheets": the largest sheet has 3,365 bytes.
-use Prim.Native.Nat.{ℕ, _+_, _*_, _/_, _≤_}
+use Prim.Native.Nat.{ℕ, _≤_}
 use native.Mathlib.Omega.{arith}
 use mathlib.Core.Path.{_≡_, refl}
 use mathlib.Core.List.{List}
@@ -10,7 +10,7 @@ use Rattle.sheets.specs.ModelSheet.{modelBits, modelBytes, columnsOf, stepsOf, 
 use Rattle.sheets.proofs.SheetLaws.{bits-le, part-fine, sheet-fine}
 use Rattle.sheets.proofs.RoundLaws.{exact-length}
 
-largest-bytes : modelBytes (limits .columns) (limits .steps) ≡ 3365
+pub largest-bytes : modelBytes (limits .columns) (limits .steps) ≡ 3365
 unfolding modelBits bytesFor
 largest-bytes = refl
 

@@ -2,24 +2,25 @@
 -- check does, and a refusal leaves everything lent as found.
 -- The checks, in 01's order, are `readChecks` and `writeChecks`: for each field of `entries` in sheet order 1 where it is not complete and
 -- then its own number where its value is bad; then, for a reader, 6 where bytes follow; and last 8 for each table.
-use Prim.Native.Nat.{ℕ, zero, suc, _+_, _*_}
+use Prim.Native.Nat.{ℕ, _+_}
 use native.Mathlib.Omega.{arith}
 use mathlib.Core.Path.{_≡_, refl, sym, ap, _∙_}
 use mathlib.Core.Bool.{Bool, true, false}
-use mathlib.Core.List.{List, [], _∷_, _++_}
+use mathlib.Core.List.{List, _++_}
 use lib.Dec.{eqb}
-use borrow.Author.Tests.{eq-eqb, ne-eqb, eqb-true, eqb-false}
+use borrow.Author.Tests.{ne-eqb, eqb-true}
 use Rattle.task.specs.Loops.{over}
-use Rattle.fields.specs.Judging.{Entry, Check, Field, pick, checksOf, refusal, each}
+use Rattle.fields.specs.Judging.{pick, checksOf, refusal}
 use Rattle.fields.specs.Packing.{sheetOf}
 use Rattle.fields.proofs.ExactLaws.{FirstToApply, Numbered, NumberedFields, numbered-append, fields-append, fields-each, numbered-checks, applies-first, first-refuses}
-use Rattle.sheets.specs.ModelSheet.{Source, columnsIn, stepsIn, headerPart, columnPart, marksPart, stepPart, fillPart, fieldsPart, entries, modelBits, modelBytes, columnsOf, stepsOf, ofSheet, sheetChecks}
-use Rattle.sheets.specs.LentTables.{frameOf, costsOf, marksOf, tooFew, readChecks, writeChecks}
+use Rattle.sheets.specs.ModelSheet.{Source, columnsIn, stepsIn, headerPart, columnPart, marksPart, stepPart, fillPart, fieldsPart, entries, modelBytes, columnsOf, stepsOf, ofSheet, sheetChecks, judgeSheet}
+use Rattle.sheets.specs.LentTables.{frameOf, costsOf, marksOf, readChecks, writeChecks}
 use Rattle.sheets.proofs.SheetLaws.{H, C, S, F}
-use Rattle.reading.specs.declared.ModelRead.{ModelRead}
+use Rattle.sheets.specs.Holding.{modelOf, noModel}
+use Rattle.unpack.specs.Unpacking.{answer, unpacked}
 use Rattle.reading.specs.declared.ModelRead.the-variants.{Held, Refused}
-use Rattle.reading.specs.Reading.{Outcome, outcome, number, reading}
-use Rattle.writing.specs.declared.write.SheetWritten.the-variants.{Bytes as SheetBytes, Refused as NotWritten}
+use Rattle.reading.specs.Reading.{outcome, number, reading}
+use Rattle.writing.specs.declared.write.SheetWritten.the-variants.{Sheet, Refused as NotWritten}
 use Rattle.writing.specs.Writing.{Outcome as WriteOutcome, outcome as written, number as writeNumber, writing}
 
 -- every field has its number
@@ -34,12 +35,35 @@ numbered-fields p =
     (fields-each (stepPart (p .column) (p .cost) (p .marks) n) m (λ j. ((λ z. omega arith), fields-each (marksPart (p .column) (p .marks) j) n (λ i. ((λ z. omega arith), ((λ z. omega arith), tt))))))
     ((λ z. omega arith), tt)))
 
+-- ---- a sheet judged by itself, as the reader by value judges it
+module _ (s : List ℕ) where
+  numbered-sheet : Numbered (sheetChecks s)
+  unfolding sheetChecks
+  numbered-sheet = numbered-append (checksOf (entries (ofSheet s))) _ (numbered-checks (entries (ofSheet s)) (numbered-fields (ofSheet s))) ((λ z. omega arith), tt)
+
+  pub code-judged : unpacked s .code ≡ judgeSheet s
+  unfolding unpacked
+  code-judged = split (eqb (judgeSheet s) 0) refl
+    where
+      split : (b : Bool) → eqb (judgeSheet s) 0 ≡ b → pick b (answer 0 (modelOf (ofSheet s))) (answer (judgeSheet s) noModel) .code ≡ judgeSheet s
+      split true h = sym (eqb-true (judgeSheet s) 0 h)
+      split false h = refl
+
+  module _ (n : ℕ) (some : n ≡ 0 → ⊥) where
+    pub unpack-only : unpacked s .code ≡ n → FirstToApply (sheetChecks s) n
+    unfolding judgeSheet
+    unpack-only e = applies-first (sheetChecks s) numbered-sheet n some (sym code-judged ∙ e)
+
+    pub unpack-whenever : FirstToApply (sheetChecks s) n → unpacked s .code ≡ n
+    unfolding judgeSheet
+    unpack-whenever r = code-judged ∙ first-refuses (sheetChecks s) n some r
+
 -- ---- the reader
 module _ (s frame costs marks : List ℕ) where
   numbered-read : Numbered (readChecks s frame costs marks)
   unfolding readChecks sheetChecks
   numbered-read =
-      numbered-append (sheetChecks s) _ (numbered-append (checksOf (entries (ofSheet s))) _ (numbered-checks (entries (ofSheet s)) (numbered-fields (ofSheet s))) ((λ z. omega arith), tt))
+      numbered-append (sheetChecks s) _ (numbered-sheet s)
       ((λ z. omega arith), ((λ z. omega arith), ((λ z. omega arith), tt)))
 
   abbrev R : ℕ
@@ -81,7 +105,7 @@ module _ (p : Source) (sheet : List ℕ) where
   unfolding writing writeNumber
   write-number = split (eqb W 0) refl
     where
-      split : (b : Bool) → eqb W 0 ≡ b → writeNumber (pick b (written (SheetBytes (modelBytes (columnsIn p) (stepsIn p))) (over (sheetOf (entries p)) sheet)) (written (NotWritten W) sheet) .answer) ≡ W
+      split : (b : Bool) → eqb W 0 ≡ b → writeNumber (pick b (written (Sheet (modelBytes (columnsIn p) (stepsIn p))) (over (sheetOf (entries p)) sheet)) (written (NotWritten W) sheet) .answer) ≡ W
       split true h = sym (eqb-true W 0 h)
       split false h = refl
 

@@ -4,11 +4,10 @@ use native.Mathlib.Nat.{suc-mul, add-zero, zero-add, mul-le-mul, le-refl, mul-on
 use native.Mathlib.Omega.{arith}
 use native.Mathlib.Numerals.{add-one}
 use mathlib.Core.Path.{_≡_, refl, sym, ap, ap₂, _∙_, subst}
-use mathlib.Core.Bool.{Bool, true, false}
+use mathlib.Core.Bool.{true}
 use mathlib.Core.List.{List, [], _∷_, _++_}
 use lib.ListN.{length, getD, take, drop, length-append, List·getD-append}
 use lib.Seq.{drop-cons, drop-drop, take-add}
-use lib.Dec.{ltb}
 use borrow.Author.Tests.{eq-eqb, ltb-true, lt-ltb, le-ltb}
 use Rattle.task.specs.Loops.{over}
 use Rattle.fields.specs.Judging.{Field, inTable, given, judged, refusal, each}
@@ -16,14 +15,14 @@ use Rattle.fields.specs.Packing.{sheetOf}
 use Rattle.fields.proofs.JudgingLaws.{each-ext, refusal-append, go, last-went, passes, no-checks}
 use Rattle.fields.proofs.PlaceLaws.{each-at}
 use Rattle.fields.proofs.PutLaws.{Bytes}
-use Rattle.sheets.specs.ModelSheet.{Source, ColumnFields, MarkFields, columnsIn, stepsIn, entries, fieldsPart, modelBytes, columnsOf, stepsOf, columnOn, costOn, marksOn, sheetWith, ofSheet, sheetChecks, judgePart, judgeSheet}
+use Rattle.sheets.specs.ModelSheet.{Source, ColumnFields, MarkFields, columnsIn, stepsIn, entries, modelBytes, columnsOf, stepsOf, sheetWith, ofSheet, sheetChecks, judgePart, judgeSheet}
 use Rattle.sheets.specs.LentTables.{columnValues, costValue, markValues, stepValues, frameOf, costsOf, marksOf, columnIn, marksIn, ofTables, readChecks, writeChecks}
 use Rattle.sheets.proofs.TableLaws.{column-length, cost-length, pair-length, row-length, frame-length, costs-length, marks-length}
 use Rattle.sheets.proofs.RoundLaws.{Fine, Same, same-fields, same-field, accepted, written-same, written-accepted, own-fine, exact-length, read-write}
 use Rattle.reading.specs.declared.ModelRead.the-variants.{Held}
 use Rattle.reading.specs.Reading.{outcome, reading}
 use Rattle.sheets.proofs.SheetLaws.{sheet-fine}
-use Rattle.writing.specs.declared.write.SheetWritten.the-variants.{Bytes as SheetBytes}
+use Rattle.writing.specs.declared.write.SheetWritten.the-variants.{Sheet}
 use Rattle.writing.specs.Writing.{outcome as written, writing}
 
 -- ---- what the tables of a model hold goes by its fields
@@ -246,10 +245,10 @@ module _ (s : List ℕ) (ok : judgeSheet s ≡ 0) (bs : Bytes s) (f c k : List �
   unfolding ofSheet sheetWith
   again = filled-entries (ofSheet s) (own-fine s ok) f c k
 
-  pub bytes-back : (sheet : List ℕ) → length s ≤ length sheet → writing R sheet ≡ written (SheetBytes (length s)) (over s sheet)
+  pub bytes-back : (sheet : List ℕ) → length s ≤ length sheet → writing R sheet ≡ written (Sheet (length s)) (over s sheet)
   unfolding writing ofTables
   bytes-back sheet h =
-      simp (eq-eqb (refusal (writeChecks R sheet)) 0 no-write-refusal) (λ t. written (SheetBytes (sym (exact-length s ok) t)) (over ((ap sheetOf again ∙ read-write s ok bs) t) sheet))
+      simp (eq-eqb (refusal (writeChecks R sheet)) 0 no-write-refusal) (λ t. written (Sheet (sym (exact-length s ok) t)) (over ((ap sheetOf again ∙ read-write s ok bs) t) sheet))
     where
       room : modelBytes (columnsIn R) (stepsIn R) ≤ length sheet
       room = subst (λ (x : ℕ). x ≤ length sheet) (exact-length s ok) h

@@ -1,4 +1,5 @@
 pub mod SheetLaws
 pub mod HoldLaws
 pub mod RoundLaws
+pub mod FrontLaws
 pub mod TableLaws

@@ -130,7 +130,7 @@ pub bits-mono : (n a b : ℕ) → a ≤ b → modelBits n a ≤ modelBits n b
 unfolding modelBits
 bits-mono n a b h = omega (arith, mul-le-mul {n₁ = a} {m₁ = 16 + n * 12} {n₂ = b} {m₂ = 16 + n * 12} h (le-refl (16 + n * 12)))
 
-base : (n m : ℕ) → 17 + n * 17 ≤ modelBits n m
+pub base : (n m : ℕ) → 17 + n * 17 ≤ modelBits n m
 unfolding modelBits
 base n m = omega arith
 

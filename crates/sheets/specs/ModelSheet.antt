@@ -29,9 +29,9 @@ pub record Source : Type 0 where
   pub marks : ℕ → ℕ → MarkFields
   pub fill : Field
 
--- ---- the fields in sheet order, each with its bits and what is refused of its value
+-- ---- the fields in sheet order: for each its bits, where it comes from, and which row refuses its value when
 
--- form 4 bits, value 1; columns 5, from 1 to 16; steps 8, up to 128
+-- form 4 bits, value 1; columns 5; steps 8
 unfoldable pub headerPart : Field → Field → Field → List Entry
 headerPart form columns steps =
     entry 4 form 2 (outside 1 1 (form .value))
@@ -39,11 +39,11 @@ headerPart form columns steps =
     ∷ entry 8 steps 3 (outside 0 (limits .steps) (steps .value))
     ∷ []
 
--- a mark 6 bits, not above the column's size
+-- a mark 6 bits: 0 for none, else the position plus 1, so not above the column's size
 abbrev pub markEntry : ColumnFields → Field → Entry
 markEntry c f = entry 6 f 5 (outside 0 (c .size .value) (f .value))
 
--- column i: size 6 bits, from 1 to 32; start 5, below the size; goal mark
+-- column i: size 6 bits; start 5, below its size; goal mark
 unfoldable pub columnPart : (ℕ → ColumnFields) → ℕ → List Entry
 columnPart c i =
     entry 6 (c i .size) 4 (outside 1 (limits .positions) (c i .size .value))
@@ -55,7 +55,7 @@ columnPart c i =
 unfoldable pub marksPart : (ℕ → ColumnFields) → (ℕ → ℕ → MarkFields) → ℕ → ℕ → List Entry
 marksPart c k j i = markEntry (c i) (k j i .need) ∷ markEntry (c i) (k j i .effect) ∷ []
 
--- step j: cost 16 bits, and for each of the n columns its marks
+-- step j: cost 16 bits, any value, and for each of the n columns its marks
 unfoldable pub stepPart : (ℕ → ColumnFields) → (ℕ → Field) → (ℕ → ℕ → MarkFields) → ℕ → ℕ → List Entry
 stepPart c cost k n j = free 16 (cost j) ∷ each n (marksPart c k j)
 
@@ -70,10 +70,11 @@ fillBits bits = (8 - bits % 8) % 8
 unfoldable pub fillPart : ℕ → Field → List Entry
 fillPart bits fill = entry (fillBits bits) fill 6 (outside 0 0 (fill .value)) ∷ []
 
+-- the whole sheet of n columns and m steps
 unfoldable pub fieldsPart : Source → ℕ → ℕ → List Entry
 fieldsPart p n m = headerPart (p .form) (p .columns) (p .steps) ++ (each n (columnPart (p .column)) ++ (each m (stepPart (p .column) (p .cost) (p .marks) n) ++ fillPart (modelBits n m) (p .fill)))
 
--- the whole model sheet
+-- the counts that the fields say, and the whole sheet by them
 abbrev pub columnsIn : Source → ℕ
 columnsIn p = p .columns .value
 

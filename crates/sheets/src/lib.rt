@@ -1,6 +1,7 @@
 // The model sheet: where its fields stand and which refusal it gets. One pass over its fields, in sheet order, with no stores.
 ghost use mathlib.Core.Path.{_≡_};
 ghost use Prim.Native.Nat.{_≤_, _<_};
+ghost use Rattle.task.specs.Sizes.{limits};
 ghost use Rattle.fields.specs.Judging.{onSheet, judged, each};
 ghost use Rattle.sheets.specs.ModelSheet.{modelBits, headerPart, columnPart, marksPart, stepPart, columnsOf, stepsOf, columnOn, costOn, marksOn, judgePart, judgeSheet};
 use fields::field::field;
@@ -11,7 +12,7 @@ use task::Model;
 
 // How many bits the fields of so many columns and steps take. The next step would begin there.
 pub fn model_bits(columns: usize, steps: usize) -> usize
-    requires { ⌜ (columns ≤ 16) × (steps ≤ 128) ⌝ }
+    requires { ⌜ (columns ≤ limits .columns) × (steps ≤ limits .steps) ⌝ }
     ensures { λ r. ⌜ (r ≡ modelBits columns steps) × (r ≤ 26913) ⌝ }
 {
     17 + columns * 17 + steps * (16 + columns * 12)
@@ -32,7 +33,7 @@ fn judge_header(s: &[u8]) -> u8
 }
 
 fn judge_column(s: &[u8], i: usize) -> u8
-    requires { ⌜ i < 16 ⌝ }
+    requires { ⌜ i < limits .columns ⌝ }
     ensures { λ r. ⌜ r ≡ judged (columnPart (columnOn (now (s .entry))) i) ⌝ }
 {
     let at = 17 + i * 17;
@@ -49,7 +50,7 @@ fn judge_column(s: &[u8], i: usize) -> u8
 }
 
 fn judge_columns(s: &[u8], n: usize) -> u8
-    requires { ⌜ n ≤ 16 ⌝ }
+    requires { ⌜ n ≤ limits .columns ⌝ }
     ensures { λ r. ⌜ r ≡ judged (each n (columnPart (columnOn (now (s .entry))))) ⌝ }
 {
     let mut i: usize = 0;
@@ -64,7 +65,7 @@ fn judge_columns(s: &[u8], n: usize) -> u8
 }
 
 fn judge_marks(s: &[u8], n: usize, j: usize, i: usize) -> u8
-    requires { ⌜ (n ≤ 16) × (j < 128) × (i < 16) ⌝ }
+    requires { ⌜ (n ≤ limits .columns) × (j < limits .steps) × (i < limits .columns) ⌝ }
     ensures { λ r. ⌜ r ≡ judged (marksPart (columnOn (now (s .entry))) (marksOn (now (s .entry)) n) j i) ⌝ }
 {
     let size = field(s, 17 + i * 17, 6);
@@ -77,7 +78,7 @@ fn judge_marks(s: &[u8], n: usize, j: usize, i: usize) -> u8
 }
 
 fn judge_step(s: &[u8], n: usize, j: usize) -> u8
-    requires { ⌜ (n ≤ 16) × (j < 128) ⌝ }
+    requires { ⌜ (n ≤ limits .columns) × (j < limits .steps) ⌝ }
     ensures { λ r. ⌜ r ≡ judged (stepPart (columnOn (now (s .entry))) (costOn (now (s .entry)) n) (marksOn (now (s .entry)) n) n j) ⌝ }
 {
     let a = judge_free(s, model_bits(n, j), 16);
@@ -96,7 +97,7 @@ fn judge_step(s: &[u8], n: usize, j: usize) -> u8
 }
 
 fn judge_steps(s: &[u8], n: usize, m: usize) -> u8
-    requires { ⌜ (n ≤ 16) × (m ≤ 128) ⌝ }
+    requires { ⌜ (n ≤ limits .columns) × (m ≤ limits .steps) ⌝ }
     ensures { λ r. ⌜ r ≡ judged (each m (stepPart (columnOn (now (s .entry))) (costOn (now (s .entry)) n) (marksOn (now (s .entry)) n) n)) ⌝ }
 {
     let mut j: usize = 0;

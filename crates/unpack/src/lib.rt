@@ -1,6 +1,7 @@
 // The model that a sheet holds, in the task's own tables.
 ghost use mathlib.Core.Path.{_≡_};
 ghost use Prim.Native.Nat.{_+_, _*_, _≤_, _<_};
+ghost use Rattle.task.specs.Sizes.{limits};
 ghost use Rattle.task.specs.Loops.{tab, over};
 ghost use Rattle.task.specs.Tables.{mark};
 ghost use Rattle.task.specs.Task.{position};
@@ -21,8 +22,8 @@ pub struct Read {
 }
 
 fn sizes(s: &[u8], n: usize) -> [u8; Model::COLUMNS]
-    requires { ⌜ n ≤ 16 ⌝ }
-    ensures { λ r. ⌜ r ≡ over (tab n (sizeOn (now (s .entry)))) (unused 16 0) ⌝ }
+    requires { ⌜ n ≤ limits .columns ⌝ }
+    ensures { λ r. ⌜ r ≡ over (tab n (sizeOn (now (s .entry)))) (unused (limits .columns) 0) ⌝ }
 {
     let mut t = [0u8; Model::COLUMNS];
     let mut i: usize = 0;
@@ -34,8 +35,8 @@ fn sizes(s: &[u8], n: usize) -> [u8; Model::COLUMNS]
 }
 
 fn starts(s: &[u8], n: usize) -> [Position; Model::COLUMNS]
-    requires { ⌜ n ≤ 16 ⌝ }
-    ensures { λ r. ⌜ r ≡ over (tab n (startOn (now (s .entry)))) (unused 16 (position 0)) ⌝ }
+    requires { ⌜ n ≤ limits .columns ⌝ }
+    ensures { λ r. ⌜ r ≡ over (tab n (startOn (now (s .entry)))) (unused (limits .columns) (position 0)) ⌝ }
 {
     let mut t = [Position(0); Model::COLUMNS];
     let mut i: usize = 0;
@@ -47,8 +48,8 @@ fn starts(s: &[u8], n: usize) -> [Position; Model::COLUMNS]
 }
 
 fn goals(s: &[u8], n: usize) -> [Mark; Model::COLUMNS]
-    requires { ⌜ n ≤ 16 ⌝ }
-    ensures { λ r. ⌜ r ≡ over (tab n (goalOn (now (s .entry)))) (unused 16 (mark 0)) ⌝ }
+    requires { ⌜ n ≤ limits .columns ⌝ }
+    ensures { λ r. ⌜ r ≡ over (tab n (goalOn (now (s .entry)))) (unused (limits .columns) (mark 0)) ⌝ }
 {
     let mut t = [Mark(0); Model::COLUMNS];
     let mut i: usize = 0;
@@ -60,8 +61,8 @@ fn goals(s: &[u8], n: usize) -> [Mark; Model::COLUMNS]
 }
 
 fn costs(s: &[u8], n: usize, m: usize) -> [u16; Model::STEPS]
-    requires { ⌜ (n ≤ 16) × (m ≤ 128) ⌝ }
-    ensures { λ r. ⌜ r ≡ over (tab m (tenthsOn (now (s .entry)) n)) (unused 128 0) ⌝ }
+    requires { ⌜ (n ≤ limits .columns) × (m ≤ limits .steps) ⌝ }
+    ensures { λ r. ⌜ r ≡ over (tab m (tenthsOn (now (s .entry)) n)) (unused (limits .steps) 0) ⌝ }
 {
     let mut t = [0u16; Model::STEPS];
     let mut j: usize = 0;
@@ -74,7 +75,7 @@ fn costs(s: &[u8], n: usize, m: usize) -> [u16; Model::STEPS]
 
 // The mark at a place of a table of marks: `skip` is 0 for needs and 6 for effects.
 fn mark_at(s: &[u8], n: usize, skip: usize, k: usize) -> Mark
-    requires { ⌜ (n ≤ 16) × (skip ≤ 6) × (k < 2048) ⌝ }
+    requires { ⌜ (n ≤ limits .columns) × (skip ≤ 6) × (k < limits .steps * limits .columns) ⌝ }
     ensures { λ r. ⌜ r ≡ markPlace (markOn (now (s .entry)) n skip) n k ⌝ }
 {
     let i = k % Model::COLUMNS;
@@ -86,7 +87,7 @@ fn mark_at(s: &[u8], n: usize, skip: usize, k: usize) -> Mark
 }
 
 fn marks(s: &[u8], n: usize, m: usize, skip: usize) -> [Mark; Model::STEPS * Model::COLUMNS]
-    requires { ⌜ (n ≤ 16) × (m ≤ 128) × (skip ≤ 6) ⌝ }
+    requires { ⌜ (n ≤ limits .columns) × (m ≤ limits .steps) × (skip ≤ 6) ⌝ }
     ensures { λ r. ⌜ r ≡ markTable (markOn (now (s .entry)) n skip) n m ⌝ }
 {
     let end = m * Model::COLUMNS;
@@ -116,7 +117,7 @@ fn no_model() -> Model
 
 // The model of a sheet of n columns and m steps.
 fn tables(s: &[u8], n: usize, m: usize) -> Model
-    requires { ⌜ (n ≤ 16) × (m ≤ 128) × (n ≡ columnsOf (now s)) × (m ≡ stepsOf (now s)) ⌝ }
+    requires { ⌜ (n ≤ limits .columns) × (m ≤ limits .steps) × (n ≡ columnsOf (now s)) × (m ≡ stepsOf (now s)) ⌝ }
     ensures { λ r. ⌜ r ≡ modelOf (ofSheet (now (s .entry))) ⌝ }
 {
     let size = sizes(s, n);

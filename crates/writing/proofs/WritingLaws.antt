@@ -11,14 +11,14 @@ use Rattle.fields.specs.Bits.{putField}
 use Rattle.fields.specs.Judging.{given, inTable, outside, _then_, refusal, judged, each}
 use Rattle.fields.specs.Packing.{packed}
 use Rattle.fields.proofs.JudgingLaws.{good, inside, went, judged-append, last-stopped, last-went, applies, passes, no-checks}
-use Rattle.fields.proofs.PutLaws.{Bytes as AreBytes}
+use Rattle.fields.proofs.PutLaws.{Bytes}
 use Rattle.fields.proofs.PackingLaws.{packed-append, packed-over}
 use Rattle.sheets.specs.ModelSheet.{Source, columnsIn, stepsIn, headerPart, columnPart, stepPart, fillPart, fieldsPart, entries, modelBits, modelBytes, fillBits}
 use Rattle.sheets.specs.LentTables.{columnIn, marksIn, ofTables, tooFew, writeChecks}
 use Rattle.sheets.proofs.SheetLaws.{H, C, S, F, part-header, part-columns, parts-fine, header-fine}
 use Rattle.sheets.proofs.HoldLaws.{at-columns, at-steps, at-fill, sheet-bits, whole-bytes}
 use Rattle.sheets.proofs.RoundLaws.{fits}
-use Rattle.writing.specs.declared.write.SheetWritten.the-variants.{Bytes, Refused}
+use Rattle.writing.specs.declared.write.SheetWritten.the-variants.{Sheet, Refused}
 use Rattle.writing.specs.Writing.{outcome, writing}
 
 -- one field more, its position and value known by other names
@@ -98,11 +98,11 @@ module _ (p : Source) (l : List ℕ) where
     unfolding writeChecks
     accepted-write h = sym (last-went (entries p) (tooFew bytes l ∷ []) e z (passes 8 _ [] (le-ltb (length l) bytes h) no-checks))
 
-    pub put-written : ((j : ℕ) → j < stepsIn p → p .cost j .value < 65536) → AreBytes l → {b : ℕ} {t : List ℕ} → b ≡ bytes → bytes ≤ length l → t ≡ packed 0 (entries p) l → outcome (Bytes b) t ≡ writing p l
+    pub put-written : ((j : ℕ) → j < stepsIn p → p .cost j .value < 65536) → Bytes l → {b : ℕ} {t : List ℕ} → b ≡ bytes → bytes ≤ length l → t ≡ packed 0 (entries p) l → outcome (Sheet b) t ≡ writing p l
     unfolding writing over entries
     put-written costs bl {b} {t} q h et =
         simp (eq-eqb (refusal (writeChecks p l)) 0 (accepted-write h))
-        (λ k. outcome (Bytes (q k)) ((et ∙ packed-over (entries p) bytes (fits p (sym e ∙ z) costs) (sheet-bits p (columnsIn p) (stepsIn p) ∙ whole-bytes (columnsIn p) (stepsIn p)) l bl h) k))
+        (λ k. outcome (Sheet (q k)) ((et ∙ packed-over (entries p) bytes (fits p (sym e ∙ z) costs) (sheet-bits p (columnsIn p) (stepsIn p) ∙ whole-bytes (columnsIn p) (stepsIn p)) l bl h) k))
 
 -- the counts of an accepted model
 pub given-fine : (n m : ℕ) (frame costs marks : List ℕ) → judged (entries (ofTables n m frame costs marks)) ≡ 0 → (n ≤ 16) × (m ≤ 128)

@@ -8,11 +8,11 @@ use Rattle.fields.specs.Packing.{sheetOf}
 use Rattle.sheets.specs.ModelSheet.{Source, columnsIn, stepsIn, entries, modelBytes}
 use Rattle.sheets.specs.LentTables.{writeChecks}
 use Rattle.writing.specs.declared.write.SheetWritten.{SheetWritten}
-use Rattle.writing.specs.declared.write.SheetWritten.the-variants.{Bytes, Refused}
+use Rattle.writing.specs.declared.write.SheetWritten.the-variants.{Sheet, Refused}
 
 -- an answer's refusal number; 0 for none
 unfoldable pub number : SheetWritten → ℕ
-number (Bytes n) = 0
+number (Sheet bytes) = 0
 number (Refused n) = n
 
 pub record Outcome : Type 0 where
@@ -26,4 +26,4 @@ outcome a sheet = record { answer = a; sheet = sheet }
 unfoldable pub writing : Source → List ℕ → Outcome
 writing p sheet =
     let n = refusal (writeChecks p sheet) in
-    pick (eqb n 0) (outcome (Bytes (modelBytes (columnsIn p) (stepsIn p))) (over (sheetOf (entries p)) sheet)) (outcome (Refused n) sheet)
+    pick (eqb n 0) (outcome (Sheet (modelBytes (columnsIn p) (stepsIn p))) (over (sheetOf (entries p)) sheet)) (outcome (Refused n) sheet)

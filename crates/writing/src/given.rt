@@ -1,6 +1,7 @@
 // Which refusal a writer gives: the lent tables judged in sheet order.
 ghost use mathlib.Core.Path.{_≡_};
 ghost use Prim.Native.Nat.{_≤_, _<_};
+ghost use Rattle.task.specs.Sizes.{limits};
 ghost use Rattle.fields.specs.Judging.{given, inTable, judged, each};
 ghost use Rattle.sheets.specs.ModelSheet.{headerPart, columnPart, marksPart, stepPart, entries};
 ghost use Rattle.sheets.specs.LentTables.{columnIn, marksIn, ofTables};
@@ -26,7 +27,7 @@ fn given_header(n: usize, m: usize) -> u8
 }
 
 fn given_column(frame: &[u8], i: usize) -> u8
-    requires { ⌜ i < 16 ⌝ }
+    requires { ⌜ i < limits .columns ⌝ }
     ensures { λ r. ⌜ r ≡ judged (columnPart (columnIn (now (frame .entry))) i) ⌝ }
 {
     let at = i * 3;
@@ -43,7 +44,7 @@ fn given_column(frame: &[u8], i: usize) -> u8
 }
 
 fn given_columns(frame: &[u8], n: usize) -> u8
-    requires { ⌜ n ≤ 16 ⌝ }
+    requires { ⌜ n ≤ limits .columns ⌝ }
     ensures { λ r. ⌜ r ≡ judged (each n (columnPart (columnIn (now (frame .entry))))) ⌝ }
 {
     let mut i: usize = 0;
@@ -58,7 +59,7 @@ fn given_columns(frame: &[u8], n: usize) -> u8
 }
 
 fn given_marks(frame: &[u8], marks: &[u8], n: usize, j: usize, i: usize) -> u8
-    requires { ⌜ (n ≤ 16) × (j < 128) × (i < 16) ⌝ }
+    requires { ⌜ (n ≤ limits .columns) × (j < limits .steps) × (i < limits .columns) ⌝ }
     ensures { λ r. ⌜ r ≡ judged (marksPart (columnIn (now (frame .entry))) (marksIn (now (marks .entry)) n) j i) ⌝ }
 {
     let size = place(frame, i * 3);
@@ -71,7 +72,7 @@ fn given_marks(frame: &[u8], marks: &[u8], n: usize, j: usize, i: usize) -> u8
 }
 
 fn given_step(frame: &[u8], costs: &[u16], marks: &[u8], n: usize, j: usize) -> u8
-    requires { ⌜ (n ≤ 16) × (j < 128) ⌝ }
+    requires { ⌜ (n ≤ limits .columns) × (j < limits .steps) ⌝ }
     ensures { λ r. ⌜ r ≡ judged (stepPart (columnIn (now (frame .entry))) (inTable (now (costs .entry))) (marksIn (now (marks .entry)) n) n j) ⌝ }
 {
     let a = judge_wide_place(costs, j);
@@ -90,7 +91,7 @@ fn given_step(frame: &[u8], costs: &[u16], marks: &[u8], n: usize, j: usize) -> 
 }
 
 fn given_steps(frame: &[u8], costs: &[u16], marks: &[u8], n: usize, m: usize) -> u8
-    requires { ⌜ (n ≤ 16) × (m ≤ 128) ⌝ }
+    requires { ⌜ (n ≤ limits .columns) × (m ≤ limits .steps) ⌝ }
     ensures { λ r. ⌜ r ≡ judged (each m (stepPart (columnIn (now (frame .entry))) (inTable (now (costs .entry))) (marksIn (now (marks .entry)) n) n)) ⌝ }
 {
     let mut j: usize = 0;

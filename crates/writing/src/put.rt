@@ -1,6 +1,7 @@
 // Putting the fields of lent tables into lent bytes, in sheet order.
 ghost use mathlib.Core.Path.{_≡_};
 ghost use Prim.Native.Nat.{_+_, _*_, _≤_, _<_};
+ghost use Rattle.task.specs.Sizes.{limits};
 ghost use Rattle.fields.specs.Judging.{given, inTable, each};
 ghost use Rattle.fields.specs.Packing.{packed};
 ghost use Rattle.sheets.specs.ModelSheet.{modelBits, headerPart, columnPart, marksPart, stepPart, entries};
@@ -11,7 +12,7 @@ use fields::put::put_field;
 use sheets::model_bits;
 
 fn put_header(out: &mut [u8], n: usize, m: usize)
-    requires { ⌜ (n ≤ 16) × (m ≤ 128) ⌝ }
+    requires { ⌜ (n ≤ limits .columns) × (m ≤ limits .steps) ⌝ }
     ensures { λ _. ⌜ now (out .exit) ≡ packed 0 (headerPart (given 1) (given n) (given m)) (now (out .entry)) ⌝ }
 {
     put_field(out, 0, 4, 1);
@@ -20,7 +21,7 @@ fn put_header(out: &mut [u8], n: usize, m: usize)
 }
 
 fn put_column(out: &mut [u8], frame: &[u8], i: usize)
-    requires { ⌜ i < 16 ⌝ }
+    requires { ⌜ i < limits .columns ⌝ }
     ensures { λ _. ⌜ now (out .exit) ≡ packed (17 + i * 17) (columnPart (columnIn (now (frame .entry))) i) (now (out .entry)) ⌝ }
 {
     let at = 17 + i * 17;
@@ -30,7 +31,7 @@ fn put_column(out: &mut [u8], frame: &[u8], i: usize)
 }
 
 fn put_columns(out: &mut [u8], frame: &[u8], n: usize)
-    requires { ⌜ n ≤ 16 ⌝ }
+    requires { ⌜ n ≤ limits .columns ⌝ }
     ensures { λ _. ⌜ now (out .exit) ≡ packed 17 (each n (columnPart (columnIn (now (frame .entry))))) (now (out .entry)) ⌝ }
 {
     let mut i: usize = 0;
@@ -42,7 +43,7 @@ fn put_columns(out: &mut [u8], frame: &[u8], n: usize)
 
 // The marks of step j at column i.
 fn put_marks(out: &mut [u8], frame: &[u8], marks: &[u8], n: usize, j: usize, i: usize)
-    requires { ⌜ (n ≤ 16) × (j < 128) × (i < 16) ⌝ }
+    requires { ⌜ (n ≤ limits .columns) × (j < limits .steps) × (i < limits .columns) ⌝ }
     ensures { λ _. ⌜ now (out .exit) ≡ packed (modelBits n j + 16 + i * 12) (marksPart (columnIn (now (frame .entry))) (marksIn (now (marks .entry)) n) j i) (now (out .entry)) ⌝ }
 {
     let need = model_bits(n, j) + 16 + i * 12;
@@ -53,7 +54,7 @@ fn put_marks(out: &mut [u8], frame: &[u8], marks: &[u8], n: usize, j: usize, i: 
 }
 
 fn put_step(out: &mut [u8], frame: &[u8], costs: &[u16], marks: &[u8], n: usize, j: usize)
-    requires { ⌜ (n ≤ 16) × (j < 128) ⌝ }
+    requires { ⌜ (n ≤ limits .columns) × (j < limits .steps) ⌝ }
     ensures { λ _. ⌜ now (out .exit) ≡ packed (modelBits n j) (stepPart (columnIn (now (frame .entry))) (inTable (now (costs .entry))) (marksIn (now (marks .entry)) n) n j) (now (out .entry)) ⌝ }
 {
     put_field(out, model_bits(n, j), 16, wide_place(costs, j));
@@ -65,7 +66,7 @@ fn put_step(out: &mut [u8], frame: &[u8], costs: &[u16], marks: &[u8], n: usize,
 }
 
 fn put_steps(out: &mut [u8], frame: &[u8], costs: &[u16], marks: &[u8], n: usize, m: usize)
-    requires { ⌜ (n ≤ 16) × (m ≤ 128) ⌝ }
+    requires { ⌜ (n ≤ limits .columns) × (m ≤ limits .steps) ⌝ }
     ensures { λ _. ⌜ now (out .exit) ≡ packed (17 + n * 17) (each m (stepPart (columnIn (now (frame .entry))) (inTable (now (costs .entry))) (marksIn (now (marks .entry)) n) n)) (now (out .entry)) ⌝ }
 {
     let mut j: usize = 0;
@@ -76,7 +77,7 @@ fn put_steps(out: &mut [u8], frame: &[u8], costs: &[u16], marks: &[u8], n: usize
 }
 
 pub fn put_sheet(out: &mut [u8], n: usize, m: usize, frame: &[u8], costs: &[u16], marks: &[u8])
-    requires { ⌜ (n ≤ 16) × (m ≤ 128) ⌝ }
+    requires { ⌜ (n ≤ limits .columns) × (m ≤ limits .steps) ⌝ }
     ensures { λ _. ⌜ now (out .exit) ≡ packed 0 (entries (ofTables n m (now (frame .entry)) (now (costs .entry)) (now (marks .entry)))) (now (out .entry)) ⌝ }
 {
     put_header(out, n, m);

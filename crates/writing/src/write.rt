@@ -8,7 +8,7 @@ use sheets::model_bits;
 
 // The number of bytes written, or a refusal.
 pub enum SheetWritten {
-    Bytes(usize),
+    Sheet(usize),
     Refused(u8),
 }
 
@@ -32,5 +32,5 @@ pub fn write_model(
         return SheetWritten::Refused(8);
     }
     put_sheet(sheet, columns, steps, frame, costs, marks);
-    SheetWritten::Bytes(bytes)
+    SheetWritten::Sheet(bytes)
 }

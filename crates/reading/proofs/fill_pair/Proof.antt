@@ -1,3 +1,5 @@
+use Prim.Native.Nat.{_<_}
+use mathlib.Core.Path.{sym, subst}
 use Rattle.fields.specs.Bits.{fieldAt}
 use Rattle.fields.proofs.FieldLaws.{field-lt}
 use Rattle.fields.specs.Places.{puts}
@@ -58,8 +60,8 @@ field-requires c κs = search needs
 -- src/lib.rt:80:20
 cast-marks : tie.Need-cast-marks
 cast-marks c =
-    let a = c .before .before .before .before .args in
-    omega (arith, field-lt (a .s .now) (c .before .model-bits .result + 16 + a .i * 12) 6)
+    let h : c .field .result < 64 = subst (λ (x : ℕ). x < 64) (sym (c .field .ensures)) (field-lt _ _ 6) in
+    omega (arith, h)
 
 -- src/lib.rt:80:5
 slice-write-marks : tie.Need-slice-write-marks
@@ -72,8 +74,8 @@ field-requires-2 c κs = search needs
 -- src/lib.rt:81:24
 cast-marks-2 : tie.Need-cast-marks-2
 cast-marks-2 c =
-    let a = c .before .before .before .before .before .args in
-    omega (arith, field-lt (a .s .now) (c .before .before .model-bits .result + 16 + a .i * 12 + 6) 6)
+    let h : c .field2 .result < 64 = subst (λ (x : ℕ). x < 64) (sym (c .field2 .ensures)) (field-lt _ _ 6) in
+    omega (arith, h)
 
 -- src/lib.rt:81:11
 add-marks : tie.Need-add-marks
