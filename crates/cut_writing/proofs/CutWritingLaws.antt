@@ -25,7 +25,7 @@ use Rattle.cut_sheets.specs.CutPart.{CutSource, cutHeader, cutPart, cutBits, cu
 use Rattle.cut_sheets.specs.CutSheet.{taskOn, cutLent, ofCuts, cutSheetOf, givenChecks, writeCutsChecks}
 use Rattle.sheets.specs.LentTables.{tooFew}
 use Rattle.sheet_laws.proofs.Held.{accepted-task}
-use Rattle.cut_writing.specs.declared.CutsWritten.the-variants.{Refused}
+use Rattle.cut_writing.specs.declared.CutsWritten.the-variants.{Sheet, Refused}
 use Rattle.cut_writing.specs.CutWriting.{outcome, writingCuts}
 use Rattle.cut_sheets.specs.Judged.{CutsJudged}
 use Rattle.cut_sheets.proofs.CutPartLaws.{H, C, F, at-cuts, at-fill, part-fine, part-bits, cut-whole}
@@ -193,7 +193,7 @@ module _ (model : List ℕ) (count : ℕ) (cuts sheet : List ℕ) where
 
     pub put-written : Bytes sheet → bytes ≤ length sheet → ((i : ℕ) → i < count → getD cuts (i * 3 + 2) 0 < 2 ^ 32) → {n : ℕ} {front part exit : List ℕ} → n ≡ bytes
         → front ≡ over model sheet → part ≡ packed 0 E (take (length front - length model) (drop (length model) front)) → exit ≡ putMid (length model) (length front - length model) front part
-        → outcome (Written n) exit ≡ writingCuts model count cuts sheet
+        → outcome (Sheet n) exit ≡ writingCuts model count cuts sheet
     unfolding writingCuts cutSheetOf over
     put-written b h w {n} {front} {part} {exit} q f p x =
         let d = drop (length model) sheet in
@@ -202,4 +202,4 @@ module _ (model : List ℕ) (count : ℕ) (cuts sheet : List ℕ) where
         let o : exit ≡ over (model ++ sheetOf E) sheet =
         x ∙ ap (λ (l : List ℕ). putMid (length model) (length l - length model) l part) f ∙ put-tail model d part ∙ ap (λ (l : List ℕ). model ++ l) i ∙ over-two model d (sheetOf E) sheet in
         let k : 0 ≡ refusal (writeCutsChecks model count cuts sheet) = places (passes 8 (ltb (length sheet) bytes) [] (le-ltb (length sheet) bytes h) no-checks) in
-        simp (eq-eqb (refusal (writeCutsChecks model count cuts sheet)) 0 (sym k)) (ap₂ outcome (ap Written q) o)
+        simp (eq-eqb (refusal (writeCutsChecks model count cuts sheet)) 0 (sym k)) (ap₂ outcome (ap Sheet q) o)

@@ -8,11 +8,11 @@ use Rattle.fields.specs.Judging.{pick, refusal}
 use Rattle.cut_sheets.specs.CutPart.{cutBytes}
 use Rattle.cut_sheets.specs.CutSheet.{cutSheetOf, writeCutsChecks}
 use Rattle.cut_writing.specs.declared.CutsWritten.{CutsWritten}
-use Rattle.cut_writing.specs.declared.CutsWritten.the-variants.{Bytes, Refused}
+use Rattle.cut_writing.specs.declared.CutsWritten.the-variants.{Sheet, Refused}
 
 -- an answer's refusal number; 0 for none
 unfoldable pub number : CutsWritten → ℕ
-number (Bytes n) = 0
+number (Sheet n) = 0
 number (Refused n) = n
 
 pub record Outcome : Type 0 where
@@ -26,4 +26,4 @@ outcome a sheet = record { answer = a; sheet = sheet }
 unfoldable pub writingCuts : List ℕ → ℕ → List ℕ → List ℕ → Outcome
 writingCuts model count cuts sheet =
     let n = refusal (writeCutsChecks model count cuts sheet) in
-    pick (eqb n 0) (outcome (Bytes (length model + cutBytes count)) (over (cutSheetOf model count cuts) sheet)) (outcome (Refused n) sheet)
+    pick (eqb n 0) (outcome (Sheet (length model + cutBytes count)) (over (cutSheetOf model count cuts) sheet)) (outcome (Refused n) sheet)

@@ -18,7 +18,7 @@ use unpack::unpack_model;
 
 // How many bytes were written, or a refusal.
 pub enum CutsWritten {
-    Bytes(usize),
+    Sheet(usize),
     Refused(u8),
 }
 
@@ -103,5 +103,5 @@ pub fn write_cuts(model: &[u8], count: usize, cuts: &[u32], sheet: &mut [u8]) ->
     }
     put_front(model, sheet);
     put_cut_part(&mut sheet[start..], cuts, count);
-    CutsWritten::Bytes(start + bytes)
+    CutsWritten::Sheet(start + bytes)
 }
