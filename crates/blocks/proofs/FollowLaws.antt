@@ -1,10 +1,10 @@
--- Following the cuts finds the block of a state.
+-- The cuts of a list, made one after another in an array, and following them to the block of a state.
 use mathlib.Core.Path.{_≡_, refl, sym, ap, _∙_}
 use mathlib.Core.Logic.{_⊎_, ⊎-elim, _≢_}
 use mathlib.Core.Bool.{Bool, true, false, cond}
 use mathlib.Core.List.{List, [], _∷_, _++_}
 use mathlib.Core.Option.{some}
-use Prim.Native.Nat.{ℕ, zero, suc, _+_, _*_, _<_}
+use Prim.Native.Nat.{ℕ, zero, suc, _+_, _*_, _≤_, _<_}
 use native.Mathlib.Nat.{not-suc-le-zero}
 use native.Mathlib.Omega.{arith}
 use native.Mathlib.Numerals.{add-one}
@@ -17,9 +17,10 @@ use Rattle.task.specs.Task.{Task, State, Accepted, block, position, at, columnC
 use Rattle.task.proofs.LoopLaws.{and-left, and-right, tab-length, below-suc}
 use Rattle.blocks.specs.declared.Cut.{Cut}
 use Rattle.blocks.specs.Blocks.{Blocks, blockAt, cutBlock, inBlock, whole, cutOk, cutsOk, cutAll, accepted, blocksOf, blockOf}
-use Rattle.blocks.specs.Flat.{cutAt, cutsIn, goesOn, followed}
+use Rattle.blocks.specs.Flat.{blocksIn, cutIn, cutAt, cutsIn, goesOn, followed}
 use Rattle.blocks.proofs.LeadLaws.{in-within}
 use Rattle.blocks.proofs.PartLaws.{same-or-not, Parts, CutFits, Origin, origin, fits, cut-parts}
+use Rattle.blocks.proofs.FlatLaws.{cut-made}
 use Rattle.blocks.proofs.CutLaws.{whole-parts, accepted-parts, blocks-more, blocks-length, block-only}
 
 pub followed-none : (l : List ℕ) (x : State) → followed l x 0 ≡ 0
@@ -75,6 +76,24 @@ unfolding followed goesOn cutAt at
 followed-take l x k zero h = refl
 followed-take l x k (suc n) h = rw (followed-take l x k n (λ i b. h i (omega arith)), getD-take k x (getD l (n * 3 + 1) 0) (position 0) (h n (omega arith)))
 
+-- ---- a list of cuts, one cut more
+pub cuts-none : (l : List ℕ) → cutsIn 0 l ≡ []
+unfolding cutsIn tab
+cuts-none l = refl
+
+pub cuts-more : (n : ℕ) (l : List ℕ) → cutsIn (n + 1) l ≡ cutsIn n l ++ (cutAt l n ∷ [])
+unfolding cutsIn tab
+cuts-more n l = rw add-one refl
+
+pub cuts-length : (n : ℕ) (l : List ℕ) → length (cutsIn n l) ≡ n
+unfolding cutsIn
+cuts-length n l = tab-length n (cutAt l)
+
+-- an array that holds the blocks of some cuts holds those of one cut more after it is made
+pub cut-kept : (t : Task) (cs : List Cut) (c : Cut) (columns count : ℕ) (sets : List ℕ) → columns ≤ 16 → count < 256 → c .block .0 < count → c .column .0 < columns → length sets ≡ 4096
+    → blocksIn columns count sets ≡ blocksOf t cs → blocksIn columns (count + 1) (cutIn columns count c sets) ≡ blocksOf t (cs ++ (c ∷ []))
+cut-kept t cs c columns count sets w r m h l e = cut-made columns count c sets w r m h l ∙ rw e (sym (blocks-more t cs c))
+
 -- ---- the whole list
 module _ (t : Task) (v : Accepted t) where
   split : (cs : List Cut) (c : Cut) (bs : Blocks) → cutsOk t bs (cs ++ (c ∷ [])) ≡ true → (cutsOk t bs cs ≡ true) × (cutOk t (cutAll bs cs) c ≡ true)
@@ -94,8 +113,7 @@ module _ (t : Task) (v : Accepted t) where
   Here l x n = (inBlock t x (blockAt (blocksOf t (cutsIn n l)) (block (followed l x n))) ≡ true) × (followed l x n < length (blocksOf t (cutsIn n l)))
 
   more : (n : ℕ) (l : List ℕ) → cutsIn (suc n) l ≡ cutsIn n l ++ (cutAt l n ∷ [])
-  unfolding cutsIn tab
-  more n l = refl
+  more n l = rw (← add-one) (cuts-more n l)
 
   here : (l : List ℕ) (x : State) → isState t x ≡ true → (n : ℕ) → accepted t (cutsIn n l) ≡ true → Here l x n
   unfolding Here followed
@@ -108,7 +126,7 @@ module _ (t : Task) (v : Accepted t) where
       let cs = cutsIn n l in
       let s = accepted-less cs c (rw more at h) in
       let i = here l x is n (s .0) in
-      let k : length (blocksOf t cs) ≡ suc n = blocks-length t cs ∙ ap suc (unfold cutsIn in tab-length n (cutAt l)) in
+      let k : length (blocksOf t cs) ≡ suc n = blocks-length t cs ∙ ap suc (cuts-length n l) in
       let g = goes-on t (blocksOf t cs) c (accepted-parts t v cs (s .0)) (fits t (blocksOf t cs) c (s .1)) x is (block (followed l x n)) (i .1) (i .0) in
       rw (more, blocks-more) (rw k at g)
 
