@@ -27,6 +27,7 @@ use Rattle.sheets.specs.Holding.{modelOf, noModel}
 use Rattle.unpack.specs.declared.Read.{Read}
 use Rattle.unpack.specs.Unpacking.{answer, unpacked}
 use Rattle.sheet_laws.proofs.Held.{read-task, read-accepted}
+use Rattle.sheet_laws.proofs.Refusals.{code-judged}
 use Rattle.cut_sheets.specs.CutPart.{CutFields, cutsNamed, cutOn, countOf, judgeCuts}
 use Rattle.cut_sheets.specs.CutSheet.{taskOn, tailOf, atFront, cutSheetChecks, cutValues, cutList, rebuildChecks}
 use Rattle.cut_sheets.specs.Judged.{Made, PartJudged}
@@ -70,12 +71,7 @@ rest-all s n = take-all (length s - n) (drop n s) (simp length-drop (omega arith
 -- ---- the given model
 module _ (m : List ℕ) {r : Read} (e : r ≡ unpacked m) where
   pub read-code : r .code ≡ judgeSheet m
-  unfolding unpacked
-  read-code = ap (λ (x : Read). x .code) e ∙ code (eqb (judgeSheet m) 0) refl
-    where
-      code : (b : Bool) → eqb (judgeSheet m) 0 ≡ b → pick b (answer 0 (modelOf (ofSheet m))) (answer (judgeSheet m) noModel) .code ≡ judgeSheet m
-      code true h = sym (eqb-true (judgeSheet m) 0 h)
-      code false h = refl
+  read-code = ap (λ (x : Read). x .code) e ∙ code-judged m
 
   module _ (z : r .code ≡ 0) where
     pub ok : judgeSheet m ≡ 0

@@ -24,7 +24,7 @@ use Rattle.writing.specs.declared.write.SheetWritten.the-variants.{Sheet, Refus
 use Rattle.writing.specs.Writing.{Outcome as WriteOutcome, outcome as written, number as writeNumber, writing}
 
 -- every field has its number
-numbered-fields : (p : Source) → NumberedFields (entries p)
+pub numbered-fields : (p : Source) → NumberedFields (entries p)
 unfolding entries fieldsPart headerPart columnPart stepPart marksPart fillPart
 numbered-fields p =
     let n = columnsIn p in
@@ -37,7 +37,7 @@ numbered-fields p =
 
 -- ---- a sheet judged by itself, as the reader by value judges it
 module _ (s : List ℕ) where
-  numbered-sheet : Numbered (sheetChecks s)
+  pub numbered-sheet : Numbered (sheetChecks s)
   unfolding sheetChecks
   numbered-sheet = numbered-append (checksOf (entries (ofSheet s))) _ (numbered-checks (entries (ofSheet s)) (numbered-fields (ofSheet s))) ((λ z. omega arith), tt)
 

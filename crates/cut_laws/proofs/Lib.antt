@@ -1,0 +1,3 @@
+pub mod Ten
+pub mod Refusals
+pub mod Examples

@@ -1,0 +1,1 @@
+// What holds of cut sheets as a whole: no function stands here.
