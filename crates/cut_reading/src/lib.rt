@@ -79,7 +79,7 @@ fn fill_cuts(part: &[u8], count: usize, cuts: &mut [u32])
 }
 
 fn fill_cut(part: &[u8], i: usize, cuts: &mut [u32])
-    requires { ⌜ (i < 255) × (i * 3 + 3 ≤ length (now cuts)) ⌝ }
+    requires { ⌜ (i + 1 < limits .blocks) × (i * 3 + 3 ≤ length (now cuts)) ⌝ }
     ensures { λ _. ⌜ now (cuts .exit) ≡ puts (i * 3) (cutValues (cutOn (now (part .entry))) i) (now (cuts .entry)) ⌝ }
 {
     let at = 12 + i * 44;

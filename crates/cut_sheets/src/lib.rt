@@ -20,7 +20,7 @@ use task::Model;
 
 // Cut i of a cut part.
 fn read_cut(s: &[u8], i: usize) -> Cut
-    requires { ⌜ i < 255 ⌝ }
+    requires { ⌜ i + 1 < limits .blocks ⌝ }
     ensures { λ r. ⌜ r ≡ cutNamed (cutOn (now (s .entry)) i) ⌝ }
 {
     let at = 12 + i * 44;
@@ -36,7 +36,7 @@ fn read_cut(s: &[u8], i: usize) -> Cut
 
 // Cut i: 1 where its three fields are not there, 9 where the blocks so far do not take it, else 0.
 fn judge_cut(s: &[u8], i: usize, columns: usize, sets: &[u32; Model::BLOCKS * Model::COLUMNS]) -> u8
-    requires { ⌜ (i < 255) × (columns ≤ limits .columns) ⌝ }
+    requires { ⌜ (i + 1 < limits .blocks) × (columns ≤ limits .columns) ⌝ }
     ensures { λ r. ⌜ CutJudged (cutOn (now (s .entry))) columns i r × ((t : Task) → columnCount t ≡ columns → Made t (cutOn (now (s .entry))) columns i (now (sets .entry)) → r ≡ judged (cutPart t (cutOn (now (s .entry))) i)) ⌝ }
 {
     if s.len() < (12 + i * 44 + 44 + 7) / 8 {
@@ -83,7 +83,7 @@ pub fn judge_cut_part(
     if a != 0 {
         return a;
     }
-    let b = judge_field(s, 4, 8, 0, 255, 9);
+    let b = judge_field(s, 4, 8, 0, Model::BLOCKS as u32 - 1, 9);
     if b != 0 {
         return b;
     }
@@ -105,7 +105,7 @@ pub fn judge_cut_part(
 
 // Cut i of a lent list, whose numbers are within the limits.
 fn lent_cut(cuts: &[u32], i: usize) -> Cut
-    requires { ⌜ (i < 255) × (i * 3 + 3 ≤ length (now cuts)) × (getD (now cuts) (i * 3) 0 < limits .blocks) × (getD (now cuts) (i * 3 + 1) 0 < limits .columns) ⌝ }
+    requires { ⌜ (i + 1 < limits .blocks) × (i * 3 + 3 ≤ length (now cuts)) × (getD (now cuts) (i * 3) 0 < limits .blocks) × (getD (now cuts) (i * 3 + 1) 0 < limits .columns) ⌝ }
     ensures { λ r. ⌜ r ≡ cutNamed (cutLent (now (cuts .entry)) i) ⌝ }
 {
     let block = cuts[i * 3];
@@ -125,7 +125,7 @@ fn judge_lent_cut(
     columns: usize,
     sets: &[u32; Model::BLOCKS * Model::COLUMNS],
 ) -> u8
-    requires { ⌜ (i < 255) × (columns ≤ limits .columns) ⌝ }
+    requires { ⌜ (i + 1 < limits .blocks) × (columns ≤ limits .columns) ⌝ }
     ensures { λ r. ⌜ LentJudged (now (cuts .entry)) columns i r × ((t : Task) → columnCount t ≡ columns → Made t (cutLent (now (cuts .entry))) columns i (now (sets .entry)) → r ≡ judged (cutPart t (cutLent (now (cuts .entry))) i)) ⌝ }
 {
     if cuts.len() < i * 3 + 3 {

@@ -35,7 +35,7 @@ fn put_front(front: &[u8], out: &mut [u8])
 }
 
 fn put_cut(out: &mut [u8], cuts: &[u32], i: usize)
-    requires { ⌜ (i < 255) × (i * 3 + 3 ≤ length (now cuts)) ⌝ }
+    requires { ⌜ (i + 1 < limits .blocks) × (i * 3 + 3 ≤ length (now cuts)) ⌝ }
     ensures { λ _. ⌜ ((t : Task) → now (out .exit) ≡ packed (12 + i * 44) (cutPart t (cutLent (now (cuts .entry))) i) (now (out .entry))) ⌝ }
 {
     let at = 12 + i * 44;

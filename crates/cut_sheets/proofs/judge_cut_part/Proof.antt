@@ -18,6 +18,12 @@ returns : tie.Need-returns
 returns c = let g = c .before .before .before .args in
     λ t e m. form-refused t (g .s .now) (g .sets .now) (g .columns) (c .before .judge-field .ensures) (c .if1 .taken)
 
+cast-judge-field : tie.Need-cast-judge-field
+cast-judge-field c = search needs
+
+sub-judge-field : tie.Need-sub-judge-field
+sub-judge-field c = search needs
+
 judge-field-requires-2 : tie.Need-judge-field-requires-2
 judge-field-requires-2 c κs = search needs
 
@@ -46,8 +52,8 @@ mul-bits c = search needs
 add-bits : tie.Need-add-bits
 add-bits c = search needs
 
-sub-judge-field : tie.Need-sub-judge-field
-sub-judge-field c = search needs
+sub-judge-field-2 : tie.Need-sub-judge-field-2
+sub-judge-field-2 c = search needs
 
 judge-field-requires-3 : tie.Need-judge-field-requires-3
 judge-field-requires-3 c κs = let l = count-below (c .before .before .before .before .before .before .before .before .before .args .s .now) (c .before .before .before .field .ensures) in (omega arith, omega arith)
@@ -84,6 +90,8 @@ judge-cut-part-spec =
     (tie.spec
     judge-field-requires
     returns
+    cast-judge-field
+    sub-judge-field
     judge-field-requires-2
     returns-2
     field-requires
@@ -92,7 +100,7 @@ judge-cut-part-spec =
     returns-3
     mul-bits
     add-bits
-    sub-judge-field
+    sub-judge-field-2
     judge-field-requires-3
     returns-4
     add-if5

@@ -36,7 +36,7 @@ unfolding cutLent
 returns-2 c = let g = c .before .before .before .before .args in
     let w = lent-whole (g .cuts .now) (g .i) (omega arith) in (
       record { place = λ z. absurd (omega arith); cut = record { block = λ z. absurd (omega arith); column = λ z. absurd (omega arith) } },
-      λ t e m. cut-bad t (cutLent (g .cuts .now)) (g .i) (w .0) (w .1) (w .2) (not-made t (cutLent (g .cuts .now)) (g .i) (c .before .before .before .before .pre .0) (omega arith)),
+      λ t e m. cut-bad t (cutLent (g .cuts .now)) (g .i) (w .0) (w .1) (w .2) (not-made t (cutLent (g .cuts .now)) (g .i) (omega arith) (omega arith)),
     )
 
 cast-if3 : tie.Need-cast-if3
