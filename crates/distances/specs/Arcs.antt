@@ -7,6 +7,7 @@ use lib.Dec.{eqb}
 use lib.Bits.{bitAnd}
 use lib.ListN.{getD}
 use Rattle.task.specs.Loops.{all}
+use Rattle.task.specs.Sizes.{limits}
 use Rattle.blocks.specs.Blocks.{common, isEmpty}
 use Rattle.blocks.specs.Flat.{past, rowOf}
 use Rattle.blocks.specs.Masks.{lies, leadsBy, goalBy}
@@ -50,7 +51,7 @@ takeWord columns needs sets g a = bitsBelow (takenIn columns needs sets g a) 32
 
 -- the test of an arc by the tables: the step can be taken from a, and keeps no column in which the two are apart
 unfoldable pub told : List ℕ → ℕ → ℕ → List ℕ → ℕ → Bool
-told takes s kept apart a = not (eqb (bitAnd (getD takes (s / 32 * 256 + a) 0) (2 ^ (s % 32))) 0) && eqb (bitAnd kept (getD apart a 0)) 0
+told takes s kept apart a = not (eqb (bitAnd (getD takes (s / 32 * limits .blocks + a) 0) (2 ^ (s % 32))) 0) && eqb (bitAnd kept (getD apart a 0)) 0
 
 -- the test of an arc into block b, where the landing has been tested
 unfoldable pub toldIn : ℕ → List ℕ → List ℕ → List ℕ → ℕ → ℕ → ℕ → List ℕ → ℕ → Bool
@@ -63,13 +64,13 @@ pub record Kept (columns steps : ℕ) (lands K : List ℕ) : Type 0 where
 pub record Apart (columns count : ℕ) (sets : List ℕ) (b : ℕ) (P : List ℕ) : Type 0 where
   pub each : (a : ℕ) → a < count → getD P a 0 ≡ apartMask columns sets b a
 
--- rows of 256, one for each group of 32 steps; the first groups are filled
+-- rows of one place for each block, one for each group of 32 steps; the first groups are filled
 pub record Taken (columns count : ℕ) (needs sets : List ℕ) (groups : ℕ) (T : List ℕ) : Type 0 where
-  pub each : (g a : ℕ) → g < groups → a < count → getD T (g * 256 + a) 0 ≡ takeWord columns needs sets g a
+  pub each : (g a : ℕ) → g < groups → a < count → getD T (g * limits .blocks + a) 0 ≡ takeWord columns needs sets g a
 
 pub record RowTaken (columns count : ℕ) (needs sets : List ℕ) (g : ℕ) (T T′ : List ℕ) : Type 0 where
-  pub each : (a : ℕ) → a < count → getD T′ (g * 256 + a) 0 ≡ takeWord columns needs sets g a
-  pub before : (i : ℕ) → i < g * 256 → getD T′ i 0 ≡ getD T i 0
+  pub each : (a : ℕ) → a < count → getD T′ (g * limits .blocks + a) 0 ≡ takeWord columns needs sets g a
+  pub before : (i : ℕ) → i < g * limits .blocks → getD T′ i 0 ≡ getD T i 0
 
 -- the graph's costs and goal blocks, as the tables have them
 abbrev pub costIn : List ℕ → ℕ → ℕ
