@@ -1,11 +1,33 @@
--- 01, "Sheets": a question takes a model sheet, a cut sheet and states of one byte per column.
-use Prim.Native.Nat.{ℕ, _/_, _%_}
+-- 01, "Sheets": a question takes a model sheet, a cut sheet and states of one byte per column, and writes one estimate per state.
+use Prim.Native.Nat.{ℕ, _+_, _*_, _/_, _%_}
 use mathlib.Core.Bool.{Bool, not, _||_}
 use mathlib.Core.List.{List}
+use mathlib.Core.Option.{Option·getD}
 use lib.Dec.{eqb, ltb}
 use lib.ListN.{length, getD}
-use Rattle.task.specs.Loops.{all}
-use Rattle.task.specs.Task.{Task, column, columnCount, sizeOf}
+use Rattle.task.specs.declared.Position.{Position}
+use Rattle.task.specs.Loops.{all, tab, over}
+use Rattle.task.specs.Sizes.{limits}
+use Rattle.task.specs.Task.{Task, State, column, position, columnCount, sizeOf}
+use Rattle.sheets.specs.Holding.{unused}
+use Rattle.blocks.specs.declared.Cut.{Cut}
+use Rattle.blocks.specs.Flat.{followed}
+use Rattle.distances.specs.Distances.{estimate}
+
+-- state k of the bytes, for n columns: a byte for each
+unfoldable pub placeIn : ℕ → List ℕ → ℕ → ℕ → Position
+placeIn n bytes k j = position (getD bytes (k * n + j) 0)
+
+unfoldable pub stateIn : ℕ → List ℕ → ℕ → State
+stateIn n bytes k = tab n (placeIn n bytes k)
+
+-- the same with places past the columns, as code has it
+unfoldable pub wideState : ℕ → List ℕ → ℕ → State
+wideState n bytes k = over (stateIn n bytes k) (unused (limits .columns) (position 0))
+
+-- the cost of the block that a state's cuts lead to, in a table of distances
+unfoldable pub costFound : List ℕ → List ℕ → ℕ → State → ℕ
+costFound dist cuts count x = getD dist (followed cuts x count) 0 / 65536
 
 -- how many states the bytes hold
 unfoldable pub statesIn : Task → List ℕ → ℕ
@@ -17,3 +39,11 @@ badStates t bytes =
     not (eqb (length bytes % columnCount t) 0)
     || (ltb 64 (statesIn t bytes)
     || not (all (length bytes) (λ i. ltb (getD bytes i 0) (sizeOf t (column (i % columnCount t))))))
+
+-- the estimate of state k after the cuts, the mark for "no way"
+unfoldable pub estimateAt : Task → List Cut → List ℕ → ℕ → ℕ
+estimateAt t cs states k = Option·getD (estimate t cs (stateIn (columnCount t) states k)) (limits .«no_way»)
+
+-- one estimate for each state
+unfoldable pub estimatesOf : Task → List Cut → List ℕ → List ℕ
+estimatesOf t cs states = tab (statesIn t states) (estimateAt t cs states)

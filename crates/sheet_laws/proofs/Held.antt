@@ -23,7 +23,7 @@ use Rattle.sheets.proofs.RoundLaws.{Fine, Same, same-fields, same-field, same-s
 use Rattle.unpack.specs.Unpacking.{unpacked}
 
 -- ---- the model by value is the task that the fields say
-over-at : {A : Type 0} (n : ℕ) (f : ℕ → A) (l : List A) (d : A) (i : ℕ) → i < n → getD (over (tab n f) l) i d ≡ f i
+pub over-at : {A : Type 0} (n : ℕ) (f : ℕ → A) (l : List A) (d : A) (i : ℕ) → i < n → getD (over (tab n f) l) i d ≡ f i
 unfolding over
 over-at n f l d i h = List·getD-append (tab n f) _ d i (omega (arith, tab-length n f)) ∙ tab-at n f d i h
 
