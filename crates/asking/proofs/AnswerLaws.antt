@@ -1,7 +1,7 @@
 -- What the code writes is the estimates.
 use Prim.Native.Nat.{ℕ, suc, _+_, _*_, _/_, _%_, _≤_, _<_}
 use native.Mathlib.Omega.{arith}
-use native.Mathlib.Nat.{mul-add-mod-self-right, mod-eq-of-lt}
+use native.Mathlib.Nat.{mul-add-mod-self-right, mod-eq-of-lt, mod-lt}
 use mathlib.Core.Path.{_≡_, refl, sym, ap, _∙_, subst}
 use mathlib.Core.Bool.{Bool, true, false, not, _||_}
 use mathlib.Core.List.{List}
@@ -50,6 +50,14 @@ module _ (t : Task) (bytes : List ℕ) (good : badStates t bytes ≡ false) wher
   unfolding Fit
   fitting = parts .1
 
+  -- every byte is a position
+  pub byte-fits : Accepted t → (i : ℕ) → i < length bytes → getD bytes i 0 < limits .positions
+  byte-fits v i h =
+      let n = columnCount t in
+      let j = i % columnCount t in
+      let z = v .sizes (column j) (mod-lt i (v .columns .0)) in
+      omega (arith, z .1, ltb-true (getD bytes i 0) (sizeOf t (column j)) (all-at (length bytes) (λ i. ltb (getD bytes i 0) (sizeOf t (column (i % columnCount t)))) fitting i h))
+
   pub state-good : (k : ℕ) → k < statesIn t bytes → isState t (stateIn (columnCount t) bytes k) ≡ true
   unfolding stateIn statesIn at placeIn
   state-good k h = state-intro t _ (tab-length (columnCount t) (placeIn (columnCount t) bytes k)) below
@@ -63,7 +71,7 @@ module _ (t : Task) (bytes : List ℕ) (good : badStates t bytes ≡ false) wher
 
 -- ---- one estimate
 module _ (t : Task) (v : Accepted t) (l : List ℕ) (count : ℕ) (ok : accepted t (cutsIn count l) ≡ true) (few : count < 256) where
-  made : length (blocksOf t (cutsIn count l)) ≡ suc count
+  pub made : length (blocksOf t (cutsIn count l)) ≡ suc count
   made = blocks-length t (cutsIn count l) ∙ ap suc (cuts-length count l)
 
   wide-front : (bytes : List ℕ) (k : ℕ) → take (columnCount t) (wideState (columnCount t) bytes k) ≡ stateIn (columnCount t) bytes k

@@ -84,6 +84,6 @@ pub state-room : (n k len : ℕ) → k < len / n → k * n + n ≤ len
 state-room n k len h = omega (arith, suc-mul k n, mul-le-mul {n₁ = suc k} {m₁ = n} {n₂ = len / n} {m₂ = n} h (le-refl n), div-mul-le-self len n)
 
 -- the positions of a state are the bytes
-pub wide-small : (n : ℕ) (bytes : List ℕ) (k : ℕ) → ((i : ℕ) → getD bytes i 0 < limits .positions) → (j : ℕ) → j < n → getD (wideState n bytes k) j (position 0) .0 < limits .positions
+pub wide-small : (n : ℕ) (bytes : List ℕ) (k : ℕ) → k * n + n ≤ length bytes → ((i : ℕ) → i < length bytes → getD bytes i 0 < limits .positions) → (j : ℕ) → j < n → getD (wideState n bytes k) j (position 0) .0 < limits .positions
 unfolding wideState stateIn placeIn
-wide-small n bytes k h j l = subst (λ p. p .0 < limits .positions) (sym (over-at n (placeIn n bytes k) _ (position 0) j l)) (h (k * n + j))
+wide-small n bytes k w h j l = subst (λ p. p .0 < limits .positions) (sym (over-at n (placeIn n bytes k) _ (position 0) j l)) (h (k * n + j) (omega arith))

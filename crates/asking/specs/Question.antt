@@ -1,18 +1,23 @@
 -- 01, "Sheets": a question takes a model sheet, a cut sheet and states of one byte per column, and writes one estimate per state.
 use Prim.Native.Nat.{ℕ, _+_, _*_, _/_, _%_}
 use mathlib.Core.Bool.{Bool, not, _||_}
-use mathlib.Core.List.{List}
-use mathlib.Core.Option.{Option·getD}
+use mathlib.Core.List.{List, [], _∷_, _++_}
+use mathlib.Core.Option.{Option, none, some, Option·getD}
 use lib.Dec.{eqb, ltb}
 use lib.ListN.{length, getD}
 use Rattle.task.specs.declared.Position.{Position}
 use Rattle.task.specs.Loops.{all, tab, over}
 use Rattle.task.specs.Sizes.{limits}
 use Rattle.task.specs.Task.{Task, State, column, position, columnCount, sizeOf}
+use Rattle.fields.specs.Judging.{Check, check, pick, refusal}
+use Rattle.sheets.specs.LentTables.{tooFew}
 use Rattle.sheets.specs.Holding.{unused}
 use Rattle.blocks.specs.declared.Cut.{Cut}
 use Rattle.blocks.specs.Flat.{followed}
 use Rattle.distances.specs.Distances.{estimate}
+use Rattle.cut_sheets.specs.CutSheet.{taskOn, cutSheetChecks, cutsOf}
+use Rattle.asking.specs.declared.Asked.{Asked}
+use Rattle.asking.specs.declared.Asked.the-variants.{Estimates, Refused}
 
 -- state k of the bytes, for n columns: a byte for each
 unfoldable pub placeIn : ℕ → List ℕ → ℕ → ℕ → Position
@@ -47,3 +52,34 @@ estimateAt t cs states k = Option·getD (estimate t cs (stateIn (columnCount t) 
 -- one estimate for each state
 unfoldable pub estimatesOf : Task → List Cut → List ℕ → List ℕ
 estimatesOf t cs states = tab (statesIn t states) (estimateAt t cs states)
+
+-- what a written value says of its state
+unfoldable pub valued : ℕ → Option ℕ
+valued v = pick (eqb v (limits .«no_way»)) none (some v)
+
+-- ---- a question
+
+-- the given model sheet, the inner model, 10, the cut part, then 11, then 8
+unfoldable pub questionChecks : List ℕ → List ℕ → List ℕ → List ℕ → List Check
+questionChecks model s states estimates =
+    cutSheetChecks model s ++ (check 11 (badStates (taskOn model) states) ∷ tooFew (statesIn (taskOn model) states) estimates ∷ [])
+
+-- an answer's refusal number; 0 for none
+unfoldable pub number : Asked → ℕ
+number (Estimates n) = 0
+number (Refused n) = n
+
+pub record Outcome : Type 0 where
+  pub answer : Asked
+  pub estimates : List ℕ
+
+abbrev pub outcome : Asked → List ℕ → Outcome
+outcome a estimates = record { answer = a; estimates = estimates }
+
+-- a refusal returns only its number and changes nothing lent; else one estimate for each state, and places past the last one stay
+unfoldable pub asking : List ℕ → List ℕ → List ℕ → List ℕ → Outcome
+asking model s states estimates =
+    let n = refusal (questionChecks model s states estimates) in
+    pick (eqb n 0)
+    (outcome (Estimates (statesIn (taskOn model) states)) (over (estimatesOf (taskOn model) (cutsOf s) states) estimates))
+    (outcome (Refused n) estimates)

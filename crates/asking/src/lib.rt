@@ -1,16 +1,36 @@
 // Asking for the estimates of states: the states judged and read, and one estimate written for each.
 ghost use mathlib.Core.Path.{_≡_};
+ghost use mathlib.Core.Bool.{false};
 ghost use Prim.Native.Nat.{ℕ, _+_, _*_, _/_, _≤_, _<_};
 ghost use lib.ListN.{length, getD};
 ghost use Rattle.task.specs.Loops.{tab, over};
 ghost use Rattle.task.specs.Sizes.{limits};
-ghost use Rattle.task.specs.Task.{Task, column, position, columnCount, sizeOf};
+ghost use Rattle.task.specs.Tables.{taskOf};
+ghost use Rattle.task.specs.Task.{Task, Accepted, column, position, columnCount, sizeOf};
 ghost use Rattle.fields.specs.Judging.{pick};
-ghost use Rattle.asking.specs.Question.{badStates, wideState, costFound};
+ghost use Rattle.blocks.specs.Flat.{blocksIn};
+ghost use Rattle.distances.specs.Coded.{codedOver};
+ghost use Rattle.cut_sheets.specs.CutPart.{cutsNamed, cutOn, countOf, judgeCuts};
+ghost use Rattle.cut_sheets.specs.Judged.{Made};
+ghost use Rattle.asking.specs.Question.{statesIn, badStates, wideState, costFound, estimatesOf, outcome, asking};
 use blocks::block_of;
+use blocks::fill_goals;
+use blocks::fill_lands;
+use blocks::fill_needs;
+use cut_reading::fill_cuts;
+use cut_reading::judge_cut_sheet;
+use distances::fill_distances;
+use fields::field::field;
 use task::Model;
 use task::Position;
 use task::State;
+use unpack::unpack_model;
+
+// How many estimates were written, or a refusal.
+pub enum Asked {
+    Estimates(usize),
+    Refused(u8),
+}
 
 // 11 where the bytes are no states of the columns, else 0.
 pub fn judge_states(sizes: &[u8; Model::COLUMNS], columns: usize, states: &[u8]) -> u8
@@ -50,7 +70,7 @@ fn read_state(states: &[u8], columns: usize, k: usize) -> State
 
 // The cost from a state's block on, from a table of distances.
 fn find_cost(count: usize, cuts: &[u32], dist: &[u64; Model::BLOCKS], state: State) -> u32
-    requires { ⌜ (count < limits .blocks) × (count * 3 ≤ length (now cuts)) × ((i : ℕ) → i < count → (getD (now cuts) (i * 3 + 1) 0 < limits .columns) × (getD state (getD (now cuts) (i * 3 + 1) 0) (position 0) .0 < limits .positions)) × ((a : ℕ) → getD (now dist) a 0 / 65536 ≤ limits .«no_way») ⌝ }
+    requires { ⌜ (count < limits .blocks) × (count * 3 ≤ length (now cuts)) × ((i : ℕ) → i < count → (getD (now cuts) (i * 3 + 1) 0 < limits .columns) × (getD state (getD (now cuts) (i * 3 + 1) 0) (position 0) .0 < limits .positions)) × ((a : ℕ) → a ≤ count → getD (now dist) a 0 / 65536 ≤ limits .«no_way») ⌝ }
     ensures { λ r. ⌜ r ≡ costFound (now (dist .entry)) (now (cuts .entry)) count state ⌝ }
 {
     let b = block_of(count, cuts, state);
@@ -66,7 +86,7 @@ pub fn fill_estimates(
     states: &[u8],
     estimates: &mut [u32],
 )
-    requires { ⌜ (1 ≤ columns) × (columns ≤ limits .columns) × (count < limits .blocks) × (count * 3 ≤ length (now cuts)) × (length (now states) / columns ≤ 64) × (length (now states) / columns ≤ length (now estimates)) × ((i : ℕ) → i < count → getD (now cuts) (i * 3 + 1) 0 < columns) × ((i : ℕ) → getD (now states) i 0 < limits .positions) × ((a : ℕ) → getD (now dist) a 0 / 65536 ≤ limits .«no_way») ⌝ }
+    requires { ⌜ (1 ≤ columns) × (columns ≤ limits .columns) × (count < limits .blocks) × (count * 3 ≤ length (now cuts)) × (length (now states) / columns ≤ 64) × (length (now states) / columns ≤ length (now estimates)) × ((i : ℕ) → i < count → getD (now cuts) (i * 3 + 1) 0 < columns) × ((i : ℕ) → i < length (now states) → getD (now states) i 0 < limits .positions) × ((a : ℕ) → a ≤ count → getD (now dist) a 0 / 65536 ≤ limits .«no_way») ⌝ }
     ensures { λ _. ⌜ now (estimates .exit) ≡ over (tab (length (now (states .entry)) / columns) (λ k. costFound (now (dist .entry)) (now (cuts .entry)) count (wideState columns (now (states .entry)) k))) (now (estimates .entry)) ⌝ }
 {
     let asked = states.len() / columns;
@@ -76,4 +96,82 @@ pub fn fill_estimates(
         estimates[k] = find_cost(count, cuts, dist, state);
         k += 1;
     }
+}
+
+// The distances of the blocks in an array, by the masks of the model.
+fn measure(
+    model: Model,
+    count: usize,
+    sets: &[u32; Model::BLOCKS * Model::COLUMNS],
+    dist: &mut [u64; Model::BLOCKS],
+)
+    requires { ⌜ Accepted (taskOf model) × (count ≤ limits .blocks) × (length (now dist) ≡ limits .blocks) ⌝ }
+    ensures { λ _. ⌜ now (dist .exit) ≡ codedOver (taskOf model) (blocksIn (model .columns) count (now (sets .entry))) count (now (dist .entry)) ⌝ }
+{
+    let columns = model.columns;
+    let steps = model.steps;
+    let costs = model.cost;
+    let mut needs = [0u32; Model::STEPS * Model::COLUMNS];
+    fill_needs(model, &mut needs);
+    let mut lands = [0u32; Model::STEPS * Model::COLUMNS];
+    fill_lands(model, &mut lands);
+    let mut goals = [0u32; Model::COLUMNS];
+    fill_goals(model, &mut goals);
+    fill_distances(
+        columns,
+        steps,
+        count,
+        &needs,
+        &lands,
+        &goals,
+        &costs,
+        sets,
+        dist,
+    );
+}
+
+// The estimates of states, after the cuts of a part whose blocks stand in the array.
+fn answer(
+    model: Model,
+    part: &[u8],
+    sets: &[u32; Model::BLOCKS * Model::COLUMNS],
+    states: &[u8],
+    estimates: &mut [u32],
+)
+    requires { ⌜ Accepted (taskOf model) × (judgeCuts (taskOf model) (now part) ≡ 0) × Made (taskOf model) (cutOn (now part)) (model .columns) (countOf (now part)) (now sets) × (badStates (taskOf model) (now states) ≡ false) × (statesIn (taskOf model) (now states) ≤ length (now estimates)) ⌝ }
+    ensures { λ _. ⌜ now (estimates .exit) ≡ over (estimatesOf (taskOf model) (cutsNamed (cutOn (now (part .entry))) (countOf (now (part .entry)))) (now (states .entry))) (now (estimates .entry)) ⌝ }
+{
+    let columns = model.columns;
+    let count = field(part, 4, 8) as usize;
+    let mut cuts = [0u32; (Model::BLOCKS - 1) * 3];
+    fill_cuts(part, count, &mut cuts);
+    let mut dist = [0u64; Model::BLOCKS];
+    measure(model, count + 1, sets, &mut dist);
+    fill_estimates(columns, count, &cuts, &dist, states, estimates);
+}
+
+// Judges a model sheet, a cut sheet and states, and writes one estimate for each state.
+pub fn question(model: &[u8], sheet: &[u8], states: &[u8], estimates: &mut [u32]) -> Asked
+    ensures { λ r. ⌜ outcome r (now (estimates .exit)) ≡ asking (now (model .entry)) (now (sheet .entry)) (now (states .entry)) (now (estimates .entry)) ⌝ }
+{
+    let mut sets = [0u32; Model::BLOCKS * Model::COLUMNS];
+    let r = judge_cut_sheet(model, sheet, &mut sets);
+    if r != 0 {
+        return Asked::Refused(r);
+    }
+    let read = unpack_model(model);
+    let given = read.model;
+    let columns = given.columns;
+    let sizes = given.size;
+    let bad = judge_states(&sizes, columns, states);
+    if bad != 0 {
+        return Asked::Refused(bad);
+    }
+    let asked = states.len() / columns;
+    if estimates.len() < asked {
+        return Asked::Refused(8);
+    }
+    let start = model.len();
+    answer(given, &sheet[start..], &sets, states, estimates);
+    Asked::Estimates(asked)
 }

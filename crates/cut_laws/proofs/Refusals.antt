@@ -5,7 +5,7 @@ use native.Mathlib.Omega.{arith}
 use mathlib.Core.Path.{_≡_, refl, sym, ap, _∙_}
 use mathlib.Core.Logic.{_↔_}
 use mathlib.Core.Bool.{Bool, true, false}
-use mathlib.Core.List.{List, [], _∷_, _++_}
+use mathlib.Core.List.{List}
 use lib.Dec.{eqb}
 use lib.ListN.{length}
 use borrow.Author.Tests.{ne-eqb, eqb-true}
@@ -22,15 +22,18 @@ use Rattle.cut_reading.specs.Rebuilding.{outcome, number, rebuilding}
 use Rattle.cut_writing.specs.declared.CutsWritten.the-variants.{Sheet, Refused as NotWritten}
 use Rattle.cut_writing.specs.CutWriting.{outcome as written, number as writeNumber, writingCuts}
 
+-- ---- both sheets
+pub numbered-sheets : (model s : List ℕ) → Numbered (cutSheetChecks model s)
+unfolding cutSheetChecks
+numbered-sheets model s =
+    numbered-append (sheetChecks model) _ (numbered-sheet model)
+    (numbered-append (checksOf (entries (ofSheet s))) _ (numbered-checks (entries (ofSheet s)) (numbered-fields (ofSheet s))) (λ z. omega arith, part.numbered-part (taskOn model) (tailOf s)))
+
 -- ---- rebuilding
 module _ (model s cuts : List ℕ) where
   numbered-rebuild : Numbered (rebuildChecks model s cuts)
-  unfolding rebuildChecks cutSheetChecks
-  numbered-rebuild =
-      numbered-append (cutSheetChecks model s) _
-      (numbered-append (sheetChecks model) _ (numbered-sheet model)
-      (numbered-append (checksOf (entries (ofSheet s))) _ (numbered-checks (entries (ofSheet s)) (numbered-fields (ofSheet s))) (λ z. omega arith, part.numbered-part (taskOn model) (tailOf s))))
-      (λ z. omega arith, tt)
+  unfolding rebuildChecks
+  numbered-rebuild = numbered-append (cutSheetChecks model s) _ (numbered-sheets model s) (λ z. omega arith, tt)
 
   abbrev R : ℕ
   R = refusal (rebuildChecks model s cuts)

@@ -67,7 +67,7 @@ pub fn judge_cut_sheet(
 }
 
 // The cuts of a part, three values for each.
-fn fill_cuts(part: &[u8], count: usize, cuts: &mut [u32])
+pub fn fill_cuts(part: &[u8], count: usize, cuts: &mut [u32])
     requires { ⌜ (count < limits .blocks) × (count * 3 ≤ length (now cuts)) ⌝ }
     ensures { λ _. ⌜ now (cuts .exit) ≡ puts 0 (each count (cutValues (cutOn (now (part .entry))))) (now (cuts .entry)) ⌝ }
 {

@@ -1,4 +1,6 @@
 // The library that others call. Whatever is passed is judged: nothing is asked of the caller, and a refusal leaves everything lent as found.
+pub use asking::Asked;
+pub use asking::question;
 pub use cut_reading::CutsRebuilt;
 pub use cut_reading::rebuild;
 pub use cut_writing::CutsWritten;

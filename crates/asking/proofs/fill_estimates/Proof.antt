@@ -33,7 +33,7 @@ read-state-requires c κs = let g = c .before .before .before .before .before .a
 find-cost-requires : tie.Need-find-cost-requires Inv-loop μ-loop
 find-cost-requires c κs = let g = c .before .before .before .before .before .before .args in
     let p = c .before .before .before .before .before .before .pre in
-    (p .2, p .3, (λ i h. (omega (arith, p .1, p .6 i h), rw (c .read-state .ensures) (wide-small (g .columns) (g .states .now) (c .before .before .loop .k) (p .7) _ (p .6 i h)))), p .8)
+    (p .2, p .3, (λ i h. (omega (arith, p .1, p .6 i h), rw (c .read-state .ensures) (wide-small (g .columns) (g .states .now) (c .before .before .loop .k) (state-room (g .columns) (c .before .before .loop .k) (length (g .states .now)) (omega arith)) (p .7) _ (p .6 i h)))), p .8)
 
 mul-estimates : tie.Need-mul-estimates Inv-loop μ-loop
 mul-estimates c = search needs

@@ -23,7 +23,10 @@ element-copy-out-result c = let g = c .before .before .before .args in
     search (needs, c .before .block-of .ensures .0, l)
 
 cast-result-2 : tie.Need-cast-result-2
-cast-result-2 c = omega (arith, c .before .before .before .before .pre .3 (c .before .before .block-of .result .0))
+cast-result-2 c = let g = c .before .before .before .before .args in
+    let l = followed-most (g .cuts .now) (g .state) (g .count) in
+    let e = c .before .before .block-of .ensures .0 in
+    omega (arith, c .before .before .before .before .pre .3 (c .before .before .block-of .result .0) (omega (arith, e, l)))
 
 returns : tie.Need-returns
 unfolding costFound
