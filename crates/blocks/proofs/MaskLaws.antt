@@ -58,11 +58,11 @@ lies-none : (a : PositionSet) → lies 0 a ≡ true
 unfolding lies common
 lies-none a = eq-eqb (bitAnd a 0) 0 (and-zero-r a)
 
-none-empty : isEmpty 0 ≡ true
+pub none-empty : isEmpty 0 ≡ true
 unfolding isEmpty
 none-empty = refl
 
-only-some : (p : Position) → isEmpty (only p) ≡ false
+pub only-some : (p : Position) → isEmpty (only p) ≡ false
 unfolding isEmpty only
 only-some p = ne-eqb (2 ^ p .0) 0 (λ z. let q = pow-pos (p .0) in omega arith)
 

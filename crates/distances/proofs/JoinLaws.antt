@@ -33,11 +33,11 @@ use Rattle.distances.proofs.LeastLaws.{PathOf, first-of, path-cons, dis
 use Rattle.distances.proofs.TableLaws.{distance-unique, rounds-bound}
 
 -- ---- a list written over, by its places
-over-front : (f : ℕ → ℕ) (l : List ℕ) (n i : ℕ) → i < n → getD (over (tab n f) l) i 0 ≡ f i
+pub over-front : (f : ℕ → ℕ) (l : List ℕ) (n i : ℕ) → i < n → getD (over (tab n f) l) i 0 ≡ f i
 unfolding over
 over-front f l n i h = List·getD-append (tab n f) (drop (length (tab n f)) l) 0 i (rw (tab-length n f) h) ∙ tab-at n f 0 i h
 
-over-past : (f : ℕ → ℕ) (l : List ℕ) (n i : ℕ) → n ≤ i → getD (over (tab n f) l) i 0 ≡ getD l i 0
+pub over-past : (f : ℕ → ℕ) (l : List ℕ) (n i : ℕ) → n ≤ i → getD (over (tab n f) l) i 0 ≡ getD l i 0
 unfolding over
 over-past f l n i h =
     let k = tab-length n f in

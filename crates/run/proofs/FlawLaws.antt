@@ -66,7 +66,7 @@ module _ (t : Task) (bs : Blocks) (good : Parts t bs) where
   unfolding wantedAt
   wanted-at f j h = per-at t f 0 j h
 
-  goal-flaw : (b : Block) (y : State) → b .0 < length bs → inBlock t y (blockAt bs b) ≡ true → goalBlock t (blockAt bs b) ≡ true → isGoal t y ≡ false → Flaw b y (goalWanted t)
+  pub goal-flaw : (b : Block) (y : State) → b .0 < length bs → inBlock t y (blockAt bs b) ≡ true → goalBlock t (blockAt bs b) ≡ true → isGoal t y ≡ false → Flaw b y (goalWanted t)
   unfolding isGoal goalWanted
   goal-flaw b y hb i g n =
       let z = goal-exact t (blockAt bs b) (good .shaped b hb) .0 g in
@@ -81,7 +81,7 @@ module _ (t : Task) (bs : Blocks) (good : Parts t bs) where
         off = (r .0, r .1, rw (w (r .0) (r .1)) (allowed-holds (sizeOf t (r .0)) (goalAt t (r .0)) (at y (r .0)) (below b hb y i (r .0) (r .1)) ∙ r .2));
       }
 
-  need-flaw : (b : Block) (y : State) (s : Step) (c : Sets) → b .0 < length bs → inBlock t y (blockAt bs b) ≡ true → leads t s (blockAt bs b) c ≡ true → canTake t s y ≡ false
+  pub need-flaw : (b : Block) (y : State) (s : Step) (c : Sets) → b .0 < length bs → inBlock t y (blockAt bs b) ≡ true → leads t s (blockAt bs b) c ≡ true → canTake t s y ≡ false
       → Flaw b y (needWanted t s)
   unfolding canTake needWanted
   need-flaw b y s c hb i l n =
@@ -97,7 +97,7 @@ module _ (t : Task) (bs : Blocks) (good : Parts t bs) where
         off = (r .0, r .1, rw (w (r .0) (r .1)) (allowed-holds (sizeOf t (r .0)) (needAt t s (r .0)) (at y (r .0)) (below b hb y i (r .0) (r .1)) ∙ r .2));
       }
 
-  back-flaw : (b : Block) (y : State) (s : Step) (c : Sets) → b .0 < length bs → inBlock t y (blockAt bs b) ≡ true → leads t s (blockAt bs b) c ≡ true → canTake t s y ≡ true
+  pub back-flaw : (b : Block) (y : State) (s : Step) (c : Sets) → b .0 < length bs → inBlock t y (blockAt bs b) ≡ true → leads t s (blockAt bs b) c ≡ true → canTake t s y ≡ true
       → inBlock t (taken t s y) c ≡ false → Flaw b y (backWanted t s c)
   unfolding leads canTake inBlock backWanted
   back-flaw b y s c hb i l m n =

@@ -15,13 +15,13 @@ use Rattle.task.specs.declared.Step.{Step}
 use Rattle.task.specs.declared.Block.{Block}
 use Rattle.task.specs.Loops.{first, when}
 use Rattle.task.specs.Task.{Task, Accepted, step, block, costOf}
-use Rattle.task.proofs.LoopLaws.{below-suc}
+use Rattle.task.proofs.LoopLaws.{below-suc, first-some, when-some}
 use Rattle.blocks.specs.Blocks.{Blocks}
 use Rattle.blocks.specs.Flat.{blocksIn}
 use Rattle.blocks.proofs.FlatLaws.{blocks-length}
 use Rattle.blocks.proofs.MaskLaws.{leads-by}
 use Rattle.blocks.proofs.PartLaws.{same-or-not}
-use Rattle.distances.specs.Distances.{Distance, farOf, plus, leadsTo, distances}
+use Rattle.distances.specs.Distances.{Distance, Hop, farOf, plus, leadsTo, distances}
 use Rattle.distances.specs.Ways.{noWay}
 use Rattle.distances.specs.Coded.{coded, codedAt, Tables}
 use Rattle.distances.proofs.JoinLaws.{far-small}
@@ -45,7 +45,7 @@ module _ {A : Type 0} (f : ℕ → Option A) where
   first-here (suc n) i l h k =
       ⊎-elim (λ (e : i ≡ n). rw (← e, h, k)) (λ (b : i < n). rw (first-here n i b h k)) (below-suc l)
 
-first-ext : {A : Type 0} (n : ℕ) (f g : ℕ → Option A) → ((i : ℕ) → i < n → f i ≡ g i) → first n f ≡ first n g
+pub first-ext : {A : Type 0} (n : ℕ) (f g : ℕ → Option A) → ((i : ℕ) → i < n → f i ≡ g i) → first n f ≡ first n g
 unfolding first
 first-ext zero f g e = refl
 first-ext (suc n) f g e = rw (first-ext n f g (λ i h. e i (omega arith)), e n (omega arith))
@@ -65,6 +65,15 @@ module _ (fits : ℕ → ℕ → Bool) where
       → nextBy steps count fits ≡ some (hop s b)
   unfolding nextBy nextOf
   found steps count s b hs hb no-step no-block here = first-here (λ s. first count (nextIn fits s)) steps s hs no-step (first-here (nextIn fits s) count b hb no-block here)
+
+  -- a hop that is found is one of the steps, to one of the blocks
+  pub next-below : (steps count : ℕ) (h : Hop) → nextBy steps count fits ≡ some h → (h .step .0 < steps) × (h .to .0 < count)
+  unfolding nextBy nextOf nextIn
+  next-below steps count h e =
+      let p = first-some steps (λ s. first count (λ b. when (fits s b) (hop s b))) e in
+      let q = first-some count (λ b. when (fits (p .place) b) (hop (p .place) b)) (p .here) in
+      let w : hop (p .place) (q .place) ≡ h = when-some (fits (p .place) (q .place)) (hop (p .place) (q .place)) (q .here) .1 in
+      (rw (← w) (p .below), rw (← w) (q .below))
 
 -- ---- the numbers keep a distance where the distances do
 keeps-none : (d : Distance) (w : ℕ) → d .steps ≤ 255 → d .cost ≤ 255 * 65535 → keepsIn (coded (some d)) w (coded none) ≡ keeps d w none

@@ -19,7 +19,7 @@ use Rattle.distances.proofs.OrderLaws.{Below, below, at-most-antisym, zero-at-m
 use Rattle.distances.proofs.LeastLaws.{Arc, first-of, path-cons, below-all, distances-right}
 use Rattle.run.specs.Run.{keeps, nextHop, trace}
 
-keeps-some : (d : Distance) (w : Tenths) (o : Option Distance) → keeps d w o ≡ true → (e : Distance) × (o ≡ some e) × (plus w e ≡ d)
+pub keeps-some : (d : Distance) (w : Tenths) (o : Option Distance) → keeps d w o ≡ true → (e : Distance) × (o ≡ some e) × (plus w e ≡ d)
 unfolding keeps
 keeps-some d w none h = let z : _≡_ {A = ℕ} 0 1 = cc in absurd (omega arith)
 keeps-some d w (some e) h =
@@ -122,9 +122,13 @@ module _ (t : Task) (bs : Blocks) where
       let dist : IsDistance t bs a d = rw e at (distances-right t bs a ha) in
       at-most-antisym (dist .least [] g) (zero-at-most d)
 
-  trace-next : (l : Table) (n : ℕ) (a : Block) (d : Distance) (h : Hop) → farOf l a ≡ some d → nextHop t bs l a d ≡ some h → trace t bs l (suc n) a ≡ h ∷ trace t bs l n (h .to)
+  pub trace-next : (l : Table) (n : ℕ) (a : Block) (d : Distance) (h : Hop) → farOf l a ≡ some d → nextHop t bs l a d ≡ some h → trace t bs l (suc n) a ≡ h ∷ trace t bs l n (h .to)
   unfolding trace
   trace-next l n a d h e q = rw (e, trace) (rw (q, trace))
+
+  pub trace-none : (l : Table) (n : ℕ) (a : Block) (d : Distance) → farOf l a ≡ some d → nextHop t bs l a d ≡ none → trace t bs l (suc n) a ≡ []
+  unfolding trace
+  trace-none l n a d e q = rw (e, trace) (rw (q, trace))
 
   -- the trace is a path of the block's own distance
   pub trace-path : (n : ℕ) (a : Block) (d : Distance) → a .0 < length bs → farOf (distances t bs) a ≡ some d → d .steps ≡ n

@@ -1,0 +1,123 @@
+use mathlib.Core.Logic.{⊎-elim}
+use Rattle.walk.proofs.WalkLaws.{answers}
+use Rattle.walk.proofs.FollowLaws.{Going, going-none, going-more, going-all, going-ended, going-flawed, known-end, known-flawed}
+use Rattle.walk.specs.Walking.{followBy}
+use Prim.Native.Nat.{_-_}
+use borrow.Author.Needs.{needs}
+use Rattle.walk.proofs.follow.Statement.{statement}
+use Rattle.walk.proofs.follow.Tie as tie
+use Rattle.walk.proofs.follow.Reads as reads
+use Rattle.walk.proofs.follow.Lts as lts
+use Rattle.walk.proofs.end.Reads as end-reads
+use Rattle.walk.proofs.hop.Reads as hop-reads
+
+abbrev Inv-loop : tie.InvT-loop
+Inv-loop columns steps count needs lands goals costs sets dist here₀ path₀ a0 n a₀ i₀ here path a i = Going columns steps count needs lands goals costs sets dist n (followBy columns steps count needs lands goals costs sets dist n 0 a₀ here₀ path₀) i a here path
+
+abbrev μ-loop : tie.MeasureT-loop
+μ-loop columns steps count needs lands goals costs sets dist here₀ path₀ a0 n a₀ i₀ here path a i = n - i
+
+-- src/lib.rt:325:14
+cast-a0 : tie.Need-cast-a0 Inv-loop μ-loop
+cast-a0 c = search needs
+
+-- src/lib.rt:326:14
+mul-n : tie.Need-mul-n Inv-loop μ-loop
+mul-n c = search needs
+
+-- src/lib.rt:326:14
+element-copy-out-n : tie.Need-element-copy-out-n Inv-loop μ-loop
+element-copy-out-n c = search needs
+
+-- src/lib.rt:329:5
+loop-holds : tie.Need-loop-holds Inv-loop μ-loop
+loop-holds c = going-none _ _ _ _ _ _ _ _ _ _ _ _ _ (search needs) (search needs) (search needs)
+
+-- src/lib.rt:330:13
+hop-requires : tie.Need-hop-requires Inv-loop μ-loop
+hop-requires c κs = search needs
+
+-- src/lib.rt:343:24
+enum-known-turn : tie.Need-enum-known-turn Inv-loop μ-loop
+enum-known-turn c = search needs
+
+-- src/lib.rt:344:17
+element-write-path : tie.Need-element-write-path Inv-loop μ-loop
+element-write-path c = search needs
+
+-- src/lib.rt:348:17
+enum-told : tie.Need-enum-told Inv-loop μ-loop
+enum-told c = search needs
+
+-- src/lib.rt:350:26
+enum-known-turn-2 : tie.Need-enum-known-turn-2 Inv-loop μ-loop
+enum-known-turn-2 c = search needs
+
+-- src/lib.rt:351:17
+returns : tie.Need-returns Inv-loop μ-loop
+returns c =
+    let l = c .before .before .before .before .before .before .loop in
+    let h = c .before .before .before .hop in
+    let w = c .before .turn2 .given in
+    answers (c .before .before .before .before .before .before .before .before .before .before .args .columns) (c .before .before .before .before .before .before .before .before .before .before .args .steps) (c .before .before .before .before .before .before .before .before .before .before .args .count) (c .before .before .before .before .before .before .before .before .before .before .args .«from») (c .before .before .before .before .before .before .before .before .before .before .args .needs .now) (c .before .before .before .before .before .before .before .before .before .before .args .lands .now) (c .before .before .before .before .before .before .before .before .before .before .args .goals .now) (c .before .before .before .before .before .before .before .before .before .before .args .costs .now) (c .before .before .before .before .before .before .before .before .before .before .args .sets .now) (c .before .before .before .before .before .before .before .before .before .before .args .dist .now) (c .before .before .before .before .before .before .before .before .before .before .args .here .now) (c .before .before .before .before .before .before .before .before .before .before .args .path .now) (c .before .before .before .before .before .before .before .before .before .before .pre .3) (c .before .before .before .before .before .before .before .before .before .before .pre .4) (c .before .before .before .before .before .before .before .before .before .before .pre .7) _ _ _
+    (going-flawed (c .before .before .before .before .before .before .before .before .before .before .args .columns) (c .before .before .before .before .before .before .before .before .before .before .args .steps) (c .before .before .before .before .before .before .before .before .before .before .args .count) (c .before .before .before .before .before .before .before .before .before .before .args .needs .now) (c .before .before .before .before .before .before .before .before .before .before .args .lands .now) (c .before .before .before .before .before .before .before .before .before .before .args .goals .now) (c .before .before .before .before .before .before .before .before .before .before .args .costs .now) (c .before .before .before .before .before .before .before .before .before .before .args .sets .now) (c .before .before .before .before .before .before .before .before .before .before .args .dist .now) _ _ (l .i) (l .a) (l .here) (l .path) (l .inv) (h .result) _ (h .ensures .0) (h .ensures .1 .0) (c .before .before .before .before .before .loop-test .taken) (w .0 .0) (w .1))
+    (known-flawed (c .before .before .before .before .before .before .before .before .before .before .args .columns) (c .before .before .before .before .before .before .before .before .before .before .args .steps) (c .before .before .before .before .before .before .before .before .before .before .args .count) (c .before .before .before .before .before .before .before .before .before .before .args .needs .now) (c .before .before .before .before .before .before .before .before .before .before .args .lands .now) (c .before .before .before .before .before .before .before .before .before .before .args .goals .now) (c .before .before .before .before .before .before .before .before .before .before .args .costs .now) (c .before .before .before .before .before .before .before .before .before .before .args .sets .now) (c .before .before .before .before .before .before .before .before .before .before .args .dist .now) _ _ (l .i) (l .a) (l .here) (l .path) (l .inv) _) (h .ensures .1 .1) (l .inv .long)
+
+-- src/lib.rt:354:9
+add-i : tie.Need-add-i Inv-loop μ-loop
+add-i c = search needs
+
+-- src/lib.rt:329:5
+loop-less : tie.Need-loop-less Inv-loop μ-loop
+loop-less c = search needs
+
+-- src/lib.rt:329:5
+loop-again : tie.Need-loop-again Inv-loop μ-loop
+loop-again c =
+    let l = c .before .before .before .before .before .before .loop in
+    let h = c .before .before .before .hop in
+    let w = c .before .turn .given in
+    going-more (c .before .before .before .before .before .before .before .before .before .before .args .columns) (c .before .before .before .before .before .before .before .before .before .before .args .steps) (c .before .before .before .before .before .before .before .before .before .before .args .count) (c .before .before .before .before .before .before .before .before .before .before .args .needs .now) (c .before .before .before .before .before .before .before .before .before .before .args .lands .now) (c .before .before .before .before .before .before .before .before .before .before .args .goals .now) (c .before .before .before .before .before .before .before .before .before .before .args .costs .now) (c .before .before .before .before .before .before .before .before .before .before .args .sets .now) (c .before .before .before .before .before .before .before .before .before .before .args .dist .now) _ _ (l .i) (l .a) (l .here) (l .path) (l .inv) (h .result) _ (h .ensures .0) (h .ensures .1 .0) (c .before .before .before .before .before .loop-test .taken) (w .0 .0) (w .0 .1 .0) (w .1) (h .ensures .1 .1) (search needs)
+
+-- src/lib.rt:356:5
+end-requires : tie.Need-end-requires Inv-loop μ-loop
+end-requires c κs = let m = c .before .before .loop .inv .made in search (m, needs)
+
+-- src/lib.rt:308:1
+returns-2 : tie.Need-returns-2 Inv-loop μ-loop
+returns-2 c =
+    let l = c .before .before .before .loop in
+    let few = c .before .before .before .before .before .before .before .pre .5 in
+    let ends = c .end .ensures in
+    ⊎-elim
+    (λ w.
+    answers (c .before .before .before .before .before .before .before .args .columns) (c .before .before .before .before .before .before .before .args .steps) (c .before .before .before .before .before .before .before .args .count) (c .before .before .before .before .before .before .before .args .«from») (c .before .before .before .before .before .before .before .args .needs .now) (c .before .before .before .before .before .before .before .args .lands .now) (c .before .before .before .before .before .before .before .args .goals .now) (c .before .before .before .before .before .before .before .args .costs .now) (c .before .before .before .before .before .before .before .args .sets .now) (c .before .before .before .before .before .before .before .args .dist .now) (c .before .before .before .before .before .before .before .args .here .now) (c .before .before .before .before .before .before .before .args .path .now) (c .before .before .before .before .before .before .before .pre .3) (c .before .before .before .before .before .before .before .pre .4) (c .before .before .before .before .before .before .before .pre .7) _ _ _
+    (going-all (c .before .before .before .before .before .before .before .args .columns) (c .before .before .before .before .before .before .before .args .steps) (c .before .before .before .before .before .before .before .args .count) (c .before .before .before .before .before .before .before .args .needs .now) (c .before .before .before .before .before .before .before .args .lands .now) (c .before .before .before .before .before .before .before .args .goals .now) (c .before .before .before .before .before .before .before .args .costs .now) (c .before .before .before .before .before .before .before .args .sets .now) (c .before .before .before .before .before .before .before .args .dist .now) _ _ (l .i) (l .a) (l .here) (l .path) (l .inv) _ _ (w .0 .left) (w .1) ends)
+    (known-end (c .before .before .before .before .before .before .before .args .columns) (c .before .before .before .before .before .before .before .args .steps) (c .before .before .before .before .before .before .before .args .count) (c .before .before .before .before .before .before .before .args .needs .now) (c .before .before .before .before .before .before .before .args .lands .now) (c .before .before .before .before .before .before .before .args .goals .now) (c .before .before .before .before .before .before .before .args .costs .now) (c .before .before .before .before .before .before .before .args .sets .now) (c .before .before .before .before .before .before .before .args .dist .now) _ _ (l .i) (l .a) (l .here) (l .path) (l .inv) _ _ ends few) (rw (w .1) (l .inv .wide)) (l .inv .long))
+    (λ w.
+    answers (c .before .before .before .before .before .before .before .args .columns) (c .before .before .before .before .before .before .before .args .steps) (c .before .before .before .before .before .before .before .args .count) (c .before .before .before .before .before .before .before .args .«from») (c .before .before .before .before .before .before .before .args .needs .now) (c .before .before .before .before .before .before .before .args .lands .now) (c .before .before .before .before .before .before .before .args .goals .now) (c .before .before .before .before .before .before .before .args .costs .now) (c .before .before .before .before .before .before .before .args .sets .now) (c .before .before .before .before .before .before .before .args .dist .now) (c .before .before .before .before .before .before .before .args .here .now) (c .before .before .before .before .before .before .before .args .path .now) (c .before .before .before .before .before .before .before .pre .3) (c .before .before .before .before .before .before .before .pre .4) (c .before .before .before .before .before .before .before .pre .7) _ _ _
+    (going-ended (c .before .before .before .before .before .before .before .args .columns) (c .before .before .before .before .before .before .before .args .steps) (c .before .before .before .before .before .before .before .args .count) (c .before .before .before .before .before .before .before .args .needs .now) (c .before .before .before .before .before .before .before .args .lands .now) (c .before .before .before .before .before .before .before .args .goals .now) (c .before .before .before .before .before .before .before .args .costs .now) (c .before .before .before .before .before .before .before .args .sets .now) (c .before .before .before .before .before .before .before .args .dist .now) _ _ (l .i) (l .a) (l .here) (l .path) (l .inv) (w .2 .result) _ (w .2 .ensures .0) (w .2 .ensures .1 .0) (w .0 .taken) _ _ (w .4 .given .1) (w .5) ends)
+    (known-end (c .before .before .before .before .before .before .before .args .columns) (c .before .before .before .before .before .before .before .args .steps) (c .before .before .before .before .before .before .before .args .count) (c .before .before .before .before .before .before .before .args .needs .now) (c .before .before .before .before .before .before .before .args .lands .now) (c .before .before .before .before .before .before .before .args .goals .now) (c .before .before .before .before .before .before .before .args .costs .now) (c .before .before .before .before .before .before .before .args .sets .now) (c .before .before .before .before .before .before .before .args .dist .now) _ _ (l .i) (l .a) (l .here) (l .path) (l .inv) _ _ ends few) (rw (w .5) (w .2 .ensures .1 .1)) (l .inv .long))
+    (c .before .before .loop-test .came)
+
+pub follow-spec : {M : Type 1} → statement M
+follow-spec =
+    tie.close
+    (tie.spec
+    Inv-loop
+    μ-loop
+    cast-a0
+    mul-n
+    element-copy-out-n
+    loop-holds
+    hop-requires
+    enum-known-turn
+    element-write-path
+    enum-told
+    enum-known-turn-2
+    returns
+    add-i
+    loop-less
+    loop-again
+    end-requires
+    returns-2)

@@ -1,0 +1,95 @@
+use Rattle.walk.specs.declared.Turn.the-variants.{Flawed}
+use Rattle.walk.specs.declared.Turn.{Turn}
+use Rattle.walk.proofs.TurnLaws.{turn-ended, hop-below, turn-need, turn-back, turn-went}
+use Rattle.walk.specs.Walking.{standsAfter}
+use borrow.Author.Tests.{not-true, not-false}
+use mathlib.Core.Path.{refl, sym, _∙_, ap}
+use borrow.Author.Needs.{needs}
+use Rattle.walk.proofs.hop.Statement.{statement}
+use Rattle.walk.proofs.hop.Tie as tie
+use Rattle.walk.proofs.hop.Reads as reads
+use Rattle.walk.proofs.hop.Lts as lts
+use Rattle.run.proofs.next_hop.Reads as next-hop-reads
+use Rattle.walk.proofs.back_cut.Reads as back-cut-reads
+use Rattle.walk.proofs.can_take.Reads as can-take-reads
+use Rattle.walk.proofs.lands_in.Reads as lands-in-reads
+use Rattle.walk.proofs.need_cut.Reads as need-cut-reads
+use Rattle.walk.proofs.take.Reads as take-reads
+
+-- src/lib.rt:274:9
+next-hop-requires : tie.Need-next-hop-requires
+next-hop-requires c κs = search needs
+
+-- src/lib.rt:275:18
+enum-known-next : tie.Need-enum-known-next
+enum-known-next c = search needs
+
+-- src/lib.rt:276:9
+enum-told : tie.Need-enum-told
+enum-told c = search needs
+
+-- src/lib.rt:276:9
+returns : tie.Need-returns
+unfolding standsAfter
+returns c = (turn-ended (c .before .before .before .before .args .columns) (c .before .before .before .before .args .steps) (c .before .before .before .before .args .count) (c .before .before .before .before .args .needs .now) (c .before .before .before .before .args .lands .now) (c .before .before .before .before .args .costs .now) (c .before .before .before .before .args .sets .now) (c .before .before .before .before .args .dist .now) (c .before .before .before .before .args .a) (c .before .before .before .before .args .here .now) (c .before .before .next-hop .result) (c .before .before .next-hop .ensures .0) (c .enum-told .given .1), (refl, search needs))
+
+-- src/lib.rt:278:9
+can-take-requires : tie.Need-can-take-requires
+can-take-requires c κs = let h = hop-below (c .before .before .before .before .before .before .args .columns) (c .before .before .before .before .before .before .args .steps) (c .before .before .before .before .before .before .args .count) (c .before .before .before .before .before .before .args .needs .now) (c .before .before .before .before .before .before .args .lands .now) (c .before .before .before .before .before .before .args .costs .now) (c .before .before .before .before .before .before .args .sets .now) (c .before .before .before .before .before .before .args .dist .now) (c .before .before .before .before .before .before .args .a) (c .before .before .before .before .before .before .args .here .now) (c .before .before .before .before .next-hop .result) (c .before .before .before .before .next-hop .ensures .0) (c .before .before .next .given .0 .0) (c .before .before .next .given .0 .1 .0) (c .before .before .next .given .1) in search (h, needs)
+
+-- src/lib.rt:279:29
+need-cut-requires : tie.Need-need-cut-requires
+need-cut-requires c κs = let h = hop-below (c .before .before .before .before .before .before .before .before .before .args .columns) (c .before .before .before .before .before .before .before .before .before .args .steps) (c .before .before .before .before .before .before .before .before .before .args .count) (c .before .before .before .before .before .before .before .before .before .args .needs .now) (c .before .before .before .before .before .before .before .before .before .args .lands .now) (c .before .before .before .before .before .before .before .before .before .args .costs .now) (c .before .before .before .before .before .before .before .before .before .args .sets .now) (c .before .before .before .before .before .before .before .before .before .args .dist .now) (c .before .before .before .before .before .before .before .before .before .args .a) (c .before .before .before .before .before .before .before .before .before .args .here .now) (c .before .before .before .before .before .before .before .next-hop .result) (c .before .before .before .before .before .before .before .next-hop .ensures .0) (c .before .before .before .before .before .next .given .0 .0) (c .before .before .before .before .before .next .given .0 .1 .0) (c .before .before .before .before .before .next .given .1) in search (h, needs)
+
+-- src/lib.rt:279:9
+returns-2 : tie.Need-returns-2
+unfolding standsAfter
+returns-2 c = (
+  ap {B = Turn} Flawed (c .need-cut .ensures) ∙ turn-need (c .before .before .before .before .before .before .before .before .before .before .args .columns) (c .before .before .before .before .before .before .before .before .before .before .args .steps) (c .before .before .before .before .before .before .before .before .before .before .args .count) (c .before .before .before .before .before .before .before .before .before .before .args .needs .now) (c .before .before .before .before .before .before .before .before .before .before .args .lands .now) (c .before .before .before .before .before .before .before .before .before .before .args .costs .now) (c .before .before .before .before .before .before .before .before .before .before .args .sets .now) (c .before .before .before .before .before .before .before .before .before .before .args .dist .now) (c .before .before .before .before .before .before .before .before .before .before .args .a) (c .before .before .before .before .before .before .before .before .before .before .args .here .now) (c .before .before .before .before .before .before .before .before .next-hop .result) (c .before .before .before .before .before .before .before .before .next-hop .ensures .0) (c .before .before .before .before .before .before .next .given .0 .0) (c .before .before .before .before .before .before .next .given .0 .1 .0) (c .before .before .before .before .before .before .next .given .1) (sym (c .before .before .before .can-take .ensures) ∙ not-true _ (c .before .before .if1 .taken)),
+  (refl, search needs),
+)
+
+-- src/lib.rt:281:9
+lands-in-requires : tie.Need-lands-in-requires
+lands-in-requires c κs = let h = hop-below (c .before .before .before .before .before .before .before .before .before .args .columns) (c .before .before .before .before .before .before .before .before .before .args .steps) (c .before .before .before .before .before .before .before .before .before .args .count) (c .before .before .before .before .before .before .before .before .before .args .needs .now) (c .before .before .before .before .before .before .before .before .before .args .lands .now) (c .before .before .before .before .before .before .before .before .before .args .costs .now) (c .before .before .before .before .before .before .before .before .before .args .sets .now) (c .before .before .before .before .before .before .before .before .before .args .dist .now) (c .before .before .before .before .before .before .before .before .before .args .a) (c .before .before .before .before .before .before .before .before .before .args .here .now) (c .before .before .before .before .before .before .before .next-hop .result) (c .before .before .before .before .before .before .before .next-hop .ensures .0) (c .before .before .before .before .before .next .given .0 .0) (c .before .before .before .before .before .next .given .0 .1 .0) (c .before .before .before .before .before .next .given .1) in search (h, needs)
+
+-- src/lib.rt:282:29
+back-cut-requires : tie.Need-back-cut-requires
+back-cut-requires c κs = let h = hop-below (c .before .before .before .before .before .before .before .before .before .before .before .before .args .columns) (c .before .before .before .before .before .before .before .before .before .before .before .before .args .steps) (c .before .before .before .before .before .before .before .before .before .before .before .before .args .count) (c .before .before .before .before .before .before .before .before .before .before .before .before .args .needs .now) (c .before .before .before .before .before .before .before .before .before .before .before .before .args .lands .now) (c .before .before .before .before .before .before .before .before .before .before .before .before .args .costs .now) (c .before .before .before .before .before .before .before .before .before .before .before .before .args .sets .now) (c .before .before .before .before .before .before .before .before .before .before .before .before .args .dist .now) (c .before .before .before .before .before .before .before .before .before .before .before .before .args .a) (c .before .before .before .before .before .before .before .before .before .before .before .before .args .here .now) (c .before .before .before .before .before .before .before .before .before .before .next-hop .result) (c .before .before .before .before .before .before .before .before .before .before .next-hop .ensures .0) (c .before .before .before .before .before .before .before .before .next .given .0 .0) (c .before .before .before .before .before .before .before .before .next .given .0 .1 .0) (c .before .before .before .before .before .before .before .before .next .given .1) in search (h, needs)
+
+-- src/lib.rt:282:9
+returns-3 : tie.Need-returns-3
+unfolding standsAfter
+returns-3 c = (
+  ap {B = Turn} Flawed (c .back-cut .ensures) ∙ turn-back (c .before .before .before .before .before .before .before .before .before .before .before .before .before .args .columns) (c .before .before .before .before .before .before .before .before .before .before .before .before .before .args .steps) (c .before .before .before .before .before .before .before .before .before .before .before .before .before .args .count) (c .before .before .before .before .before .before .before .before .before .before .before .before .before .args .needs .now) (c .before .before .before .before .before .before .before .before .before .before .before .before .before .args .lands .now) (c .before .before .before .before .before .before .before .before .before .before .before .before .before .args .costs .now) (c .before .before .before .before .before .before .before .before .before .before .before .before .before .args .sets .now) (c .before .before .before .before .before .before .before .before .before .before .before .before .before .args .dist .now) (c .before .before .before .before .before .before .before .before .before .before .before .before .before .args .a) (c .before .before .before .before .before .before .before .before .before .before .before .before .before .args .here .now) (c .before .before .before .before .before .before .before .before .before .before .before .next-hop .result) (c .before .before .before .before .before .before .before .before .before .before .before .next-hop .ensures .0) (c .before .before .before .before .before .before .before .before .before .next .given .0 .0) (c .before .before .before .before .before .before .before .before .before .next .given .0 .1 .0) (c .before .before .before .before .before .before .before .before .before .next .given .1) (sym (c .before .before .before .before .before .before .can-take .ensures) ∙ not-false _ (c .before .before .before .before .before .if1 .left)) (sym (c .before .before .before .lands-in .ensures) ∙ not-true _ (c .before .before .if2 .taken)),
+  (refl, search needs),
+)
+
+-- src/lib.rt:284:5
+take-requires : tie.Need-take-requires
+take-requires c κs = let h = hop-below (c .before .before .before .before .before .before .before .before .before .before .before .before .args .columns) (c .before .before .before .before .before .before .before .before .before .before .before .before .args .steps) (c .before .before .before .before .before .before .before .before .before .before .before .before .args .count) (c .before .before .before .before .before .before .before .before .before .before .before .before .args .needs .now) (c .before .before .before .before .before .before .before .before .before .before .before .before .args .lands .now) (c .before .before .before .before .before .before .before .before .before .before .before .before .args .costs .now) (c .before .before .before .before .before .before .before .before .before .before .before .before .args .sets .now) (c .before .before .before .before .before .before .before .before .before .before .before .before .args .dist .now) (c .before .before .before .before .before .before .before .before .before .before .before .before .args .a) (c .before .before .before .before .before .before .before .before .before .before .before .before .args .here .now) (c .before .before .before .before .before .before .before .before .before .before .next-hop .result) (c .before .before .before .before .before .before .before .before .before .before .next-hop .ensures .0) (c .before .before .before .before .before .before .before .before .next .given .0 .0) (c .before .before .before .before .before .before .before .before .next .given .0 .1 .0) (c .before .before .before .before .before .before .before .before .next .given .1) in search (h, needs)
+
+-- src/lib.rt:259:1
+returns-4 : tie.Need-returns-4
+unfolding standsAfter
+returns-4 c = (
+  turn-went (c .before .before .before .before .before .before .before .before .before .before .before .before .before .args .columns) (c .before .before .before .before .before .before .before .before .before .before .before .before .before .args .steps) (c .before .before .before .before .before .before .before .before .before .before .before .before .before .args .count) (c .before .before .before .before .before .before .before .before .before .before .before .before .before .args .needs .now) (c .before .before .before .before .before .before .before .before .before .before .before .before .before .args .lands .now) (c .before .before .before .before .before .before .before .before .before .before .before .before .before .args .costs .now) (c .before .before .before .before .before .before .before .before .before .before .before .before .before .args .sets .now) (c .before .before .before .before .before .before .before .before .before .before .before .before .before .args .dist .now) (c .before .before .before .before .before .before .before .before .before .before .before .before .before .args .a) (c .before .before .before .before .before .before .before .before .before .before .before .before .before .args .here .now) (c .before .before .before .before .before .before .before .before .before .before .before .next-hop .result) (c .before .before .before .before .before .before .before .before .before .before .before .next-hop .ensures .0) (c .before .before .before .before .before .before .before .before .before .next .given .0 .0) (c .before .before .before .before .before .before .before .before .before .next .given .0 .1 .0) (c .before .before .before .before .before .before .before .before .before .next .given .1) (sym (c .before .before .before .before .before .before .can-take .ensures) ∙ not-false _ (c .before .before .before .before .before .if1 .left)) (sym (c .before .before .before .lands-in .ensures) ∙ not-false _ (c .before .before .if2 .left)),
+  (c .take .ensures .0, c .take .ensures .1),
+)
+
+pub hop-spec : {M : Type 1} → statement M
+hop-spec =
+    tie.close
+    (tie.spec
+    next-hop-requires
+    enum-known-next
+    enum-told
+    returns
+    can-take-requires
+    need-cut-requires
+    returns-2
+    lands-in-requires
+    back-cut-requires
+    returns-3
+    take-requires
+    returns-4)

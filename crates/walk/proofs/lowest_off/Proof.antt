@@ -1,0 +1,90 @@
+use Rattle.walk.proofs.RowLaws.{off-none, lowest-here, lowest-none}
+use Rattle.walk.specs.Walking.{offAt}
+use Rattle.run.proofs.HopLaws.{first-nothing, first-more}
+use Rattle.task.specs.Loops.{first}
+use native.Mathlib.Omega.{arith}
+use Prim.Native.Nat.{_-_, _≤_}
+use mathlib.Core.Option.{none}
+use mathlib.Core.Path.{_≡_, sym, _∙_}
+use borrow.Author.Needs.{needs}
+use Rattle.walk.proofs.lowest_off.Statement.{statement}
+use Rattle.walk.proofs.lowest_off.Tie as tie
+use Rattle.walk.proofs.lowest_off.Reads as reads
+use Rattle.walk.proofs.lowest_off.Lts as lts
+use Rattle.walk.proofs.is_off.Reads as is-off-reads
+
+abbrev Inv-loop : tie.InvT-loop
+Inv-loop columns wanted here j₀ j = (j ≤ columns) × (first j (offAt wanted here) ≡ none)
+
+abbrev μ-loop : tie.MeasureT-loop
+μ-loop columns wanted here j₀ j = columns - j
+
+-- src/lib.rt:192:5
+loop-holds : tie.Need-loop-holds Inv-loop μ-loop
+loop-holds c = (omega arith, first-nothing _)
+
+-- src/lib.rt:193:19
+mul-is-off : tie.Need-mul-is-off Inv-loop μ-loop
+mul-is-off c = search needs
+
+-- src/lib.rt:193:19
+element-copy-out-is-off : tie.Need-element-copy-out-is-off Inv-loop μ-loop
+element-copy-out-is-off c = search needs
+
+-- src/lib.rt:193:30
+mul-is-off-2 : tie.Need-mul-is-off-2 Inv-loop μ-loop
+mul-is-off-2 c = search needs
+
+-- src/lib.rt:193:30
+element-copy-out-is-off-2 : tie.Need-element-copy-out-is-off-2 Inv-loop μ-loop
+element-copy-out-is-off-2 c = search needs
+
+-- src/lib.rt:193:12
+is-off-requires : tie.Need-is-off-requires Inv-loop μ-loop
+is-off-requires c κs = search needs
+
+-- src/lib.rt:194:27
+cast-t15 : tie.Need-cast-t15 Inv-loop μ-loop
+cast-t15 c = search needs
+
+-- src/lib.rt:194:13
+returns : tie.Need-returns Inv-loop μ-loop
+returns c = (sym (lowest-here _ _ _ (c .before .before .before .before .before .loop .j) (c .before .before .before .before .loop-test .taken) (c .before .before .before .before .before .loop .inv .1) (sym (c .before .is-off .ensures) ∙ c .if1 .taken)), omega arith)
+
+-- src/lib.rt:196:9
+add-j : tie.Need-add-j Inv-loop μ-loop
+add-j c = search needs
+
+-- src/lib.rt:192:5
+loop-less : tie.Need-loop-less Inv-loop μ-loop
+loop-less c = search needs
+
+-- src/lib.rt:192:5
+loop-again : tie.Need-loop-again Inv-loop μ-loop
+loop-again c = (omega arith, first-more _ (c .before .before .before .before .before .loop .j) (c .before .before .before .before .before .loop .inv .1) (off-none _ _ (c .before .before .before .before .before .loop .j) (sym (c .before .is-off .ensures) ∙ c .if1 .left)))
+
+-- src/lib.rt:183:1
+returns-2 : tie.Need-returns-2 Inv-loop μ-loop
+returns-2 c =
+    let l = c .before .loop in
+    let e : l .j ≡ c .before .before .args .columns = omega arith in
+    (sym (lowest-none _ _ _ (rw e at (l .inv .1))), omega arith)
+
+pub lowest-off-spec : {M : Type 1} → statement M
+lowest-off-spec =
+    tie.close
+    (tie.spec
+    Inv-loop
+    μ-loop
+    loop-holds
+    mul-is-off
+    element-copy-out-is-off
+    mul-is-off-2
+    element-copy-out-is-off-2
+    is-off-requires
+    cast-t15
+    returns
+    add-j
+    loop-less
+    loop-again
+    returns-2)

@@ -1,0 +1,22 @@
+use borrow.Author.Needs.{needs}
+use Rattle.walk.proofs.need_cut.Statement.{statement}
+use Rattle.walk.proofs.need_cut.Tie as tie
+use Rattle.walk.proofs.need_cut.Reads as reads
+use Rattle.walk.proofs.need_cut.Lts as lts
+use Rattle.walk.proofs.cut_for.Reads as cut-for-reads
+use Rattle.walk.proofs.fill_need_wanted.Reads as fill-need-wanted-reads
+
+-- src/lib.rt:235:5
+fill-need-wanted-requires : tie.Need-fill-need-wanted-requires
+fill-need-wanted-requires c κs = search needs
+
+-- src/lib.rt:236:5
+cut-for-requires : tie.Need-cut-for-requires
+cut-for-requires c κs = search needs
+
+-- src/lib.rt:223:1
+returns : tie.Need-returns
+returns c = rw (c .before .before .fill-need-wanted .ensures) at (c .cut-for .ensures)
+
+pub need-cut-spec : {M : Type 1} → statement M
+need-cut-spec = tie.close (tie.spec fill-need-wanted-requires cut-for-requires returns)

@@ -1,0 +1,113 @@
+use Prim.Native.Nat.{_*_}
+use Rattle.walk.proofs.RowLaws.{landed-over}
+use lib.ListN.{getD}
+use Rattle.walk.specs.Walking.{landed, landedAt, takenBy}
+use Rattle.blocks.specs.Flat.{past}
+use Rattle.task.proofs.LoopLaws.{over-none}
+use Rattle.task.specs.Loops.{tab, over}
+use lib.ListN.{length, length-set}
+use native.Mathlib.Omega.{arith}
+use Prim.Native.Nat.{_-_, _≤_}
+use mathlib.Core.Path.{_≡_, sym}
+use borrow.Author.Needs.{needs}
+use Rattle.walk.proofs.take.Statement.{statement}
+use Rattle.walk.proofs.take.Tie as tie
+use Rattle.walk.proofs.take.Reads as reads
+use Rattle.walk.proofs.take.Lts as lts
+use Rattle.walk.proofs.landed.Reads as landed-reads
+
+abbrev Inv-loop : tie.InvT-loop
+Inv-loop columns lands here₀ rs j₀ here j = (j ≤ columns) × (length here ≡ 16) × (here ≡ over (tab j (λ i. landed (past lands rs i) (getD here₀ i 0))) here₀)
+
+abbrev μ-loop : tie.MeasureT-loop
+μ-loop columns lands here₀ rs j₀ here j = columns - j
+
+-- src/lib.rt:121:14
+cast-rs : tie.Need-cast-rs Inv-loop μ-loop
+cast-rs c = search needs
+
+-- src/lib.rt:121:14
+mul-rs : tie.Need-mul-rs Inv-loop μ-loop
+mul-rs c = search needs
+
+-- src/lib.rt:123:5
+loop-holds : tie.Need-loop-holds Inv-loop μ-loop
+loop-holds c = (omega arith, search needs, sym (over-none _ _))
+
+-- src/lib.rt:124:32
+add-landed : tie.Need-add-landed Inv-loop μ-loop
+add-landed c = search needs
+
+-- src/lib.rt:124:26
+mul-landed : tie.Need-mul-landed Inv-loop μ-loop
+mul-landed c = search needs
+
+-- src/lib.rt:124:26
+element-copy-out-landed : tie.Need-element-copy-out-landed Inv-loop μ-loop
+element-copy-out-landed c = search needs
+
+-- src/lib.rt:124:41
+mul-landed-2 : tie.Need-mul-landed-2 Inv-loop μ-loop
+mul-landed-2 c = search needs
+
+-- src/lib.rt:124:41
+element-copy-out-landed-2 : tie.Need-element-copy-out-landed-2 Inv-loop μ-loop
+element-copy-out-landed-2 c = search needs
+
+-- src/lib.rt:124:19
+landed-requires : tie.Need-landed-requires Inv-loop μ-loop
+landed-requires c κs = search needs
+
+-- src/lib.rt:124:9
+mul-here : tie.Need-mul-here Inv-loop μ-loop
+mul-here c = search needs
+
+-- src/lib.rt:124:9
+element-write-here : tie.Need-element-write-here Inv-loop μ-loop
+element-write-here c = search needs
+
+-- src/lib.rt:125:9
+add-j : tie.Need-add-j Inv-loop μ-loop
+add-j c = search needs
+
+-- src/lib.rt:123:5
+loop-less : tie.Need-loop-less Inv-loop μ-loop
+loop-less c = search needs
+
+-- src/lib.rt:123:5
+loop-again : tie.Need-loop-again Inv-loop μ-loop
+unfolding past
+loop-again c =
+    let l = c .before .before .before .before .loop in
+    let g = c .before .before .before .before .before .before .args in
+    (omega arith, simp length-set (l .inv .1), landed-over (past (g .lands .now) (g .s .0 * 16)) (l .j) _ (l .here) (g .here .now) (l .inv .2) (omega arith) (c .landed .ensures))
+
+-- src/lib.rt:112:1
+returns : tie.Need-returns Inv-loop μ-loop
+unfolding takenBy landedAt
+returns c =
+    let l = c .before .loop in
+    let e : l .j ≡ c .before .before .before .args .columns = omega arith in
+    (rw e at (l .inv .2), l .inv .1)
+
+pub take-spec : {M : Type 1} → statement M
+take-spec =
+    tie.close
+    (tie.spec
+    Inv-loop
+    μ-loop
+    cast-rs
+    mul-rs
+    loop-holds
+    add-landed
+    mul-landed
+    element-copy-out-landed
+    mul-landed-2
+    element-copy-out-landed-2
+    landed-requires
+    mul-here
+    element-write-here
+    add-j
+    loop-less
+    loop-again
+    returns)

@@ -1,0 +1,163 @@
+-- The walk of the real states along the trace as code does it, on masks. A state stands as a row of sets with one position each, and a wanted
+-- set that allows every position is coded as 0.
+use mathlib.Core.Bool.{Bool, true, _&&_, not, cond}
+use mathlib.Core.List.{List}
+use mathlib.Core.Option.{Option, none, some, Option·getD}
+use mathlib.Core.Path.{_≡_}
+use Prim.Native.Nat.{ℕ, zero, suc, _+_, _<_}
+use lib.ListN.{getD, set}
+use Rattle.task.specs.declared.Column.{Column}
+use Rattle.task.specs.declared.Step.{Step}
+use Rattle.task.specs.declared.Block.{Block}
+use Rattle.task.specs.Loops.{all, first, when, tab, over}
+use Rattle.task.specs.Sizes.{limits}
+use Rattle.task.specs.Task.{Task, State, Tenths, Accepted, column, step, at, columnCount, isState}
+use Rattle.blocks.specs.declared.Cut.{Cut}
+use Rattle.blocks.specs.Blocks.{PositionSet, only, common, isEmpty, blockAt, inBlock, accepted, blocksOf}
+use Rattle.blocks.specs.Flat.{past, rowOf, blocksIn}
+use Rattle.blocks.specs.Masks.{lies}
+use Rattle.distances.specs.Distances.{Distance, Hop, farOf, distances}
+use Rattle.distances.specs.Coded.{Tables}
+use Rattle.run.specs.Run.{Look, planned, flaw, trace, walk, lookWalk}
+use Rattle.run.specs.Hops.{fitsBy, nextBy, Holds}
+use Rattle.walk.specs.declared.Found.{Found}
+use Rattle.walk.specs.declared.Found.the-variants.{Plan, Flaw}
+use Rattle.walk.specs.declared.Turn.{Turn}
+use Rattle.walk.specs.declared.Turn.the-variants.{Went, Ended, Flawed}
+
+-- a row of sets with one position each holds the positions of a state
+unfoldable pub Stands : Task → State → List PositionSet → Type 0
+Stands t x here = (j : Column) → j .0 < columnCount t → getD here (j .0) 0 ≡ only (at x j)
+
+-- ---- one column
+
+-- where a column stands after a step: where the step lands, or else where it stood
+unfoldable pub landed : PositionSet → PositionSet → PositionSet
+landed land here = cond (isEmpty land) here land
+
+-- the next block's set taken back over a step, 0 for every position
+unfoldable pub backSet : PositionSet → PositionSet → PositionSet → PositionSet
+backSet need land next = cond (isEmpty need) (cond (isEmpty land) next 0) need
+
+-- the present position isn't wanted
+unfoldable pub isOff : PositionSet → PositionSet → Bool
+isOff wanted here = not (isEmpty wanted) && isEmpty (common here wanted)
+
+-- ---- a row
+
+unfoldable pub takesBy : ℕ → List ℕ → List ℕ → ℕ → Bool
+takesBy columns needs here s = all columns (λ j. lies (past needs (rowOf s) j) (getD here j 0))
+
+unfoldable pub goalAtEnd : ℕ → List ℕ → List ℕ → Bool
+goalAtEnd columns goals here = all columns (λ j. lies (getD goals j 0) (getD here j 0))
+
+unfoldable pub landedAt : List ℕ → List ℕ → ℕ → ℕ → PositionSet
+landedAt lands here s j = landed (past lands (rowOf s) j) (getD here j 0)
+
+unfoldable pub landsBy : ℕ → List ℕ → List ℕ → List ℕ → ℕ → ℕ → Bool
+landsBy columns lands sets here s b = all columns (λ j. not (isEmpty (common (landedAt lands here s j) (past sets (rowOf b) j))))
+
+unfoldable pub takenBy : ℕ → List ℕ → List ℕ → ℕ → List ℕ
+takenBy columns lands here s = over (tab columns (landedAt lands here s)) here
+
+-- the wanted sets of a need flaw, and of a divergence flaw; those of a goal flaw are the goals
+unfoldable pub needRow : List ℕ → ℕ → List PositionSet
+needRow needs s = tab (limits .columns) (past needs (rowOf s))
+
+unfoldable pub backAt : List ℕ → List ℕ → List ℕ → ℕ → ℕ → ℕ → PositionSet
+backAt needs lands sets s b j = backSet (past needs (rowOf s) j) (past lands (rowOf s) j) (past sets (rowOf b) j)
+
+unfoldable pub backRow : List ℕ → List ℕ → List ℕ → ℕ → ℕ → List PositionSet
+backRow needs lands sets s b = tab (limits .columns) (backAt needs lands sets s b)
+
+-- the lowest column whose present position isn't wanted
+unfoldable pub offAt : List ℕ → List ℕ → ℕ → Option Column
+offAt wanted here j = when (isOff (getD wanted j 0) (getD here j 0)) (column j)
+
+unfoldable pub lowestOff : ℕ → List ℕ → List ℕ → Column
+lowestOff columns wanted here = Option·getD (first columns (offAt wanted here)) (column 0)
+
+-- the cut of a flaw in block a
+unfoldable pub cutBy : ℕ → List ℕ → List ℕ → Block → List ℕ → Cut
+cutBy columns sets here a wanted =
+    let j = lowestOff columns wanted here in
+    record { block = a; column = j; wanted = common (past sets (rowOf (a .0)) (j .0)) (getD wanted (j .0) 0) }
+
+-- ---- the walk
+
+-- what a walk found, where it stands then, and its path
+pub record Followed : Type 0 where
+  pub found : Found
+  pub here : List PositionSet
+  pub path : List ℕ
+
+-- at the end: a goal state, or a goal flaw
+unfoldable pub endBy : ℕ → List ℕ → List ℕ → ℕ → Block → List ℕ → Found
+endBy columns goals sets i a here = cond (goalAtEnd columns goals here) (Plan i) (Flaw (cutBy columns sets here a goals))
+
+-- one hop: a step that can't be taken is a flaw, and so is one that lands outside the next block, before the next step's need is judged
+unfoldable pub turnOn : ℕ → List ℕ → List ℕ → List ℕ → Block → List ℕ → Option Hop → Turn
+turnOn columns needs lands sets a here none = Ended
+turnOn columns needs lands sets a here (some h) =
+    cond (takesBy columns needs here (h .step .0))
+    (cond (landsBy columns lands sets here (h .step .0) (h .to .0))
+    (Went (h .step) (h .to))
+    (Flawed (cutBy columns sets here a (backRow needs lands sets (h .step .0) (h .to .0)))))
+    (Flawed (cutBy columns sets here a (needRow needs (h .step .0))))
+
+-- where the state stands after it
+unfoldable pub standsAfter : ℕ → List ℕ → List ℕ → Turn → List ℕ
+standsAfter columns lands here (Went s b) = takenBy columns lands here (s .0)
+standsAfter columns lands here Ended = here
+standsAfter columns lands here (Flawed c) = here
+
+abbrev pub outcome : Found → List PositionSet → List ℕ → Followed
+outcome r here path = record { found = r; here = here; path = path }
+
+module _ (columns steps count : ℕ) (needs lands costs sets dist : List ℕ) where
+  unfoldable pub turnBy : Block → List ℕ → Turn
+  turnBy a here = turnOn columns needs lands sets a here (nextBy steps count (fitsBy columns needs lands costs sets dist (a .0)))
+
+module _ (columns steps count : ℕ) (needs lands goals costs sets dist : List ℕ) where
+  -- n hops at most from block a, after i hops
+  unfoldable pub followBy : ℕ → ℕ → Block → List ℕ → List ℕ → Followed
+  followBy zero i a here path = outcome (endBy columns goals sets i a here) here path
+  followBy (suc n) i a here path =
+      elim (turnBy columns steps count needs lands costs sets dist a here) [
+        | Went s b ↦ followBy n (i + 1) b (takenBy columns lands here (s .0)) (set path i (s .0))
+        | Ended ↦ outcome (endBy columns goals sets i a here) here path
+        | Flawed c ↦ outcome (Flaw c) here path
+      ]
+
+-- ---- what it means
+
+unfoldable pub stepIn : List ℕ → ℕ → Step
+stepIn path i = step (getD path i 0)
+
+-- what was found, where the start's estimate is that cost
+unfoldable pub seen : Tenths → Found → List ℕ → Look
+seen cost (Plan n) path = planned (tab n (stepIn path))
+seen cost (Flaw c) path = flaw cost c
+
+-- the path of a plan names steps that are there
+unfoldable pub Known : ℕ → Found → List ℕ → Type 0
+Known steps r path = (n : ℕ) → r ≡ Plan n → (n < limits .blocks) × ((i : ℕ) → i < n → getD path i 0 < steps)
+
+-- a walk from a block begins in a state of it, with the tables, the blocks and the distances of a task
+pub record Begins (t : Task) (cs : List Cut) (x : State) (d : Distance) (columns steps count : ℕ) (a : Block) (needs lands goals costs sets dist here : List ℕ) : Type 0 where
+  pub task : Accepted t
+  pub tables : Tables t columns steps needs lands goals costs
+  pub cuts : accepted t cs ≡ true
+  pub blocks : blocksIn columns count sets ≡ blocksOf t cs
+  pub dists : Holds (distances t (blocksIn columns count sets)) count dist
+  pub stands : Stands t x here
+  pub is : isState t x ≡ true
+  pub inside : inBlock t x (blockAt (blocksIn columns count sets) a) ≡ true
+  pub far : farOf (distances t (blocksIn columns count sets)) a ≡ some d
+
+-- the walk of 01 along the trace of 01
+unfoldable pub walked : Task → ℕ → ℕ → List ℕ → State → Block → Distance → Look
+walked t columns count sets x a d =
+    let bs = blocksIn columns count sets in
+    let hs = trace t bs (distances t bs) (d .steps) a in
+    lookWalk t bs d hs (walk t bs x a hs)

@@ -1,0 +1,357 @@
+// The walk of the real states along the trace: a plan, or a flaw and its cut.
+// A state stands as an array of masks, in each column the weight of its one position, so that every test is a test of masks.
+ghost use mathlib.Core.Path.{_≡_};
+ghost use mathlib.Core.List.{List};
+ghost use Prim.Native.Nat.{_%_, _<_, _≤_};
+ghost use lib.ListN.{length, getD};
+ghost use Rattle.task.specs.Sizes.{limits};
+ghost use Rattle.task.specs.Task.{Task, State};
+ghost use Rattle.blocks.specs.declared.Cut.{Cut};
+ghost use Rattle.distances.specs.Distances.{Distance};
+ghost use Rattle.walk.specs.Walking.{landed, backSet, isOff, takesBy, goalAtEnd, landsBy, takenBy, needRow, backRow, lowestOff, cutBy, endBy, turnBy, standsAfter, followBy, outcome, seen, Known, Begins, walked};
+use blocks::Cut;
+use blocks::lies;
+use run::Next;
+use task::Block;
+use task::Column;
+use task::Model;
+use task::Step;
+
+// What a walk found: a plan of so many steps of the path, or the cut of a flaw.
+pub enum Found {
+    Plan(usize),
+    Flaw(Cut),
+}
+
+// What one hop came to: the state went on by a step to a block, the trace ended before it, or a flaw and its cut.
+pub enum Turn {
+    Went(Step, Block),
+    Ended,
+    Flawed(Cut),
+}
+
+// Where a column stands after a step. 0 means that the step keeps the column.
+fn landed(land: u32, here: u32) -> u32
+    ensures { λ r. ⌜ r ≡ landed land here ⌝ }
+{
+    if land != 0 {
+        return land;
+    }
+    here
+}
+
+// The next block's set taken back over a step. A column that lands where it needs nothing has an effect, and there every position is wanted: 0.
+fn back_set(need: u32, land: u32, next: u32) -> u32
+    ensures { λ r. ⌜ r ≡ backSet need land next ⌝ }
+{
+    if need != 0 {
+        return need;
+    }
+    if land != 0 {
+        return 0;
+    }
+    next
+}
+
+// Whether the present position isn't wanted. 0 wants every position.
+fn is_off(wanted: u32, here: u32) -> bool
+    ensures { λ r. ⌜ r ≡ isOff wanted here ⌝ }
+{
+    if wanted == 0 {
+        return false;
+    }
+    here & wanted == 0
+}
+
+// Whether the step can be taken in the state.
+fn can_take(
+    columns: usize,
+    s: Step,
+    needs: &[u32; Model::STEPS * Model::COLUMNS],
+    here: &[u32; Model::COLUMNS],
+) -> bool
+    requires { ⌜ (columns ≤ limits .columns) × (s .0 < limits .steps) ⌝ }
+    ensures { λ r. ⌜ r ≡ takesBy columns (now (needs .entry)) (now (here .entry)) (s .0) ⌝ }
+{
+    let rs = s.0 as usize * Model::COLUMNS;
+    let mut j: usize = 0;
+    while j < columns {
+        if !lies(needs[rs + j], here[j]) {
+            return false;
+        }
+        j += 1;
+    }
+    true
+}
+
+// Whether the step, taken in the state, lands in block b.
+fn lands_in(
+    columns: usize,
+    s: Step,
+    b: Block,
+    lands: &[u32; Model::STEPS * Model::COLUMNS],
+    sets: &[u32; Model::BLOCKS * Model::COLUMNS],
+    here: &[u32; Model::COLUMNS],
+) -> bool
+    requires { ⌜ (columns ≤ limits .columns) × (s .0 < limits .steps) × (b .0 < limits .blocks) ⌝ }
+    ensures { λ r. ⌜ r ≡ landsBy columns (now (lands .entry)) (now (sets .entry)) (now (here .entry)) (s .0) (b .0) ⌝ }
+{
+    let rs = s.0 as usize * Model::COLUMNS;
+    let rb = b.0 as usize * Model::COLUMNS;
+    let mut j: usize = 0;
+    while j < columns {
+        if landed(lands[rs + j], here[j]) & sets[rb + j] == 0 {
+            return false;
+        }
+        j += 1;
+    }
+    true
+}
+
+// Takes the step. Places past the columns stay as they are.
+fn take(
+    columns: usize,
+    s: Step,
+    lands: &[u32; Model::STEPS * Model::COLUMNS],
+    here: &mut [u32; Model::COLUMNS],
+)
+    requires { ⌜ (columns ≤ limits .columns) × (s .0 < limits .steps) × (length (now here) ≡ limits .columns) ⌝ }
+    ensures { λ _. ⌜ now (here .exit) ≡ takenBy columns (now (lands .entry)) (now (here .entry)) (s .0) ⌝ ∗ ⌜ length (now (here .exit)) ≡ limits .columns ⌝ }
+{
+    let rs = s.0 as usize * Model::COLUMNS;
+    let mut j: usize = 0;
+    while j < columns {
+        here[j] = landed(lands[rs + j], here[j]);
+        j += 1;
+    }
+}
+
+// Whether the state is a goal state.
+fn is_goal(columns: usize, goals: &[u32; Model::COLUMNS], here: &[u32; Model::COLUMNS]) -> bool
+    requires { ⌜ columns ≤ limits .columns ⌝ }
+    ensures { λ r. ⌜ r ≡ goalAtEnd columns (now (goals .entry)) (now (here .entry)) ⌝ }
+{
+    let mut j: usize = 0;
+    while j < columns {
+        if !lies(goals[j], here[j]) {
+            return false;
+        }
+        j += 1;
+    }
+    true
+}
+
+// The wanted sets of a need flaw: the step's needs.
+fn fill_need_wanted(
+    s: Step,
+    needs: &[u32; Model::STEPS * Model::COLUMNS],
+    wanted: &mut [u32; Model::COLUMNS],
+)
+    requires { ⌜ (s .0 < limits .steps) × (length (now wanted) ≡ limits .columns) ⌝ }
+    ensures { λ _. ⌜ now (wanted .exit) ≡ needRow (now (needs .entry)) (s .0) ⌝ }
+{
+    let rs = s.0 as usize * Model::COLUMNS;
+    let mut j: usize = 0;
+    while j < Model::COLUMNS {
+        wanted[j] = needs[rs + j];
+        j += 1;
+    }
+}
+
+// The wanted sets of a divergence flaw: the next block taken back over the step.
+fn fill_back_wanted(
+    s: Step,
+    b: Block,
+    needs: &[u32; Model::STEPS * Model::COLUMNS],
+    lands: &[u32; Model::STEPS * Model::COLUMNS],
+    sets: &[u32; Model::BLOCKS * Model::COLUMNS],
+    wanted: &mut [u32; Model::COLUMNS],
+)
+    requires { ⌜ (s .0 < limits .steps) × (b .0 < limits .blocks) × (length (now wanted) ≡ limits .columns) ⌝ }
+    ensures { λ _. ⌜ now (wanted .exit) ≡ backRow (now (needs .entry)) (now (lands .entry)) (now (sets .entry)) (s .0) (b .0) ⌝ }
+{
+    let rs = s.0 as usize * Model::COLUMNS;
+    let rb = b.0 as usize * Model::COLUMNS;
+    let mut j: usize = 0;
+    while j < Model::COLUMNS {
+        wanted[j] = back_set(needs[rs + j], lands[rs + j], sets[rb + j]);
+        j += 1;
+    }
+}
+
+// The lowest column whose present position isn't wanted.
+fn lowest_off(
+    columns: usize,
+    wanted: &[u32; Model::COLUMNS],
+    here: &[u32; Model::COLUMNS],
+) -> Column
+    requires { ⌜ columns ≤ limits .columns ⌝ }
+    ensures { λ r. ⌜ (r ≡ lowestOff columns (now (wanted .entry)) (now (here .entry))) × (r .0 < limits .columns) ⌝ }
+{
+    let mut j: usize = 0;
+    while j < columns {
+        if is_off(wanted[j], here[j]) {
+            return Column(j as u8);
+        }
+        j += 1;
+    }
+    Column(0)
+}
+
+// The cut of a flaw in block a: the wanted positions of the block go to a new one.
+fn cut_for(
+    columns: usize,
+    a: Block,
+    wanted: &[u32; Model::COLUMNS],
+    sets: &[u32; Model::BLOCKS * Model::COLUMNS],
+    here: &[u32; Model::COLUMNS],
+) -> Cut
+    requires { ⌜ (columns ≤ limits .columns) × (a .0 < limits .blocks) ⌝ }
+    ensures { λ r. ⌜ r ≡ cutBy columns (now (sets .entry)) (now (here .entry)) a (now (wanted .entry)) ⌝ }
+{
+    let column = lowest_off(columns, wanted, here);
+    let ra = a.0 as usize * Model::COLUMNS;
+    let j = column.0 as usize;
+    Cut {
+        block: a,
+        column: column,
+        wanted: sets[ra + j] & wanted[j],
+    }
+}
+
+// The cut of a step that can't be taken.
+fn need_cut(
+    columns: usize,
+    a: Block,
+    s: Step,
+    needs: &[u32; Model::STEPS * Model::COLUMNS],
+    sets: &[u32; Model::BLOCKS * Model::COLUMNS],
+    here: &[u32; Model::COLUMNS],
+) -> Cut
+    requires { ⌜ (columns ≤ limits .columns) × (a .0 < limits .blocks) × (s .0 < limits .steps) ⌝ }
+    ensures { λ r. ⌜ r ≡ cutBy columns (now (sets .entry)) (now (here .entry)) a (needRow (now (needs .entry)) (s .0)) ⌝ }
+{
+    let mut wanted = [0u32; Model::COLUMNS];
+    fill_need_wanted(s, needs, &mut wanted);
+    cut_for(columns, a, &wanted, sets, here)
+}
+
+// The cut of a step that lands outside the trace's next block.
+fn back_cut(
+    columns: usize,
+    a: Block,
+    s: Step,
+    b: Block,
+    needs: &[u32; Model::STEPS * Model::COLUMNS],
+    lands: &[u32; Model::STEPS * Model::COLUMNS],
+    sets: &[u32; Model::BLOCKS * Model::COLUMNS],
+    here: &[u32; Model::COLUMNS],
+) -> Cut
+    requires { ⌜ (columns ≤ limits .columns) × (a .0 < limits .blocks) × (s .0 < limits .steps) × (b .0 < limits .blocks) ⌝ }
+    ensures { λ r. ⌜ r ≡ cutBy columns (now (sets .entry)) (now (here .entry)) a (backRow (now (needs .entry)) (now (lands .entry)) (now (sets .entry)) (s .0) (b .0)) ⌝ }
+{
+    let mut wanted = [0u32; Model::COLUMNS];
+    fill_back_wanted(s, b, needs, lands, sets, &mut wanted);
+    cut_for(columns, a, &wanted, sets, here)
+}
+
+// One hop of the trace from block a, and of the state along it.
+fn hop(
+    columns: usize,
+    steps: usize,
+    count: usize,
+    a: Block,
+    needs: &[u32; Model::STEPS * Model::COLUMNS],
+    lands: &[u32; Model::STEPS * Model::COLUMNS],
+    costs: &[u16],
+    sets: &[u32; Model::BLOCKS * Model::COLUMNS],
+    dist: &[u64; Model::BLOCKS],
+    here: &mut [u32; Model::COLUMNS],
+) -> Turn
+    requires { ⌜ (columns ≤ limits .columns) × (steps ≤ limits .steps) × (steps ≤ length (now costs)) × (count ≤ limits .blocks) × (a .0 < count) × (length (now here) ≡ limits .columns) ⌝ }
+    ensures { λ r. ⌜ r ≡ turnBy columns steps count (now (needs .entry)) (now (lands .entry)) (now (costs .entry)) (now (sets .entry)) (now (dist .entry)) a (now (here .entry)) ⌝ ∗ ⌜ now (here .exit) ≡ standsAfter columns (now (lands .entry)) (now (here .entry)) r ⌝ ∗ ⌜ length (now (here .exit)) ≡ limits .columns ⌝ }
+{
+    let next = run::next_hop(columns, steps, count, a, needs, lands, costs, sets, dist);
+    let Next::To(s, b) = next else {
+        return Turn::Ended;
+    };
+    if !can_take(columns, s, needs, here) {
+        return Turn::Flawed(need_cut(columns, a, s, needs, sets, here));
+    }
+    if !lands_in(columns, s, b, lands, sets, here) {
+        return Turn::Flawed(back_cut(columns, a, s, b, needs, lands, sets, here));
+    }
+    take(columns, s, lands, here);
+    Turn::Went(s, b)
+}
+
+// What the end of the trace is: a goal state makes the hops a plan, any other is a goal flaw.
+fn end(
+    columns: usize,
+    hops: usize,
+    a: Block,
+    goals: &[u32; Model::COLUMNS],
+    sets: &[u32; Model::BLOCKS * Model::COLUMNS],
+    here: &[u32; Model::COLUMNS],
+) -> Found
+    requires { ⌜ (columns ≤ limits .columns) × (a .0 < limits .blocks) ⌝ }
+    ensures { λ r. ⌜ r ≡ endBy columns (now (goals .entry)) (now (sets .entry)) hops a (now (here .entry)) ⌝ }
+{
+    if is_goal(columns, goals, here) {
+        return Found::Plan(hops);
+    }
+    Found::Flaw(cut_for(columns, a, goals, sets, here))
+}
+
+// Walks from the state that stands here, in block `from`, along the block's trace. The path gets the steps that were taken; places past them
+// stay as they are.
+pub fn follow(
+    columns: usize,
+    steps: usize,
+    count: usize,
+    from: Block,
+    needs: &[u32; Model::STEPS * Model::COLUMNS],
+    lands: &[u32; Model::STEPS * Model::COLUMNS],
+    goals: &[u32; Model::COLUMNS],
+    costs: &[u16],
+    sets: &[u32; Model::BLOCKS * Model::COLUMNS],
+    dist: &[u64; Model::BLOCKS],
+    here: &mut [u32; Model::COLUMNS],
+    path: &mut [u8; Model::BLOCKS],
+) -> Found
+    requires { ⌜ (columns ≤ limits .columns) × (steps ≤ limits .steps) × (steps ≤ length (now costs)) × (count ≤ limits .blocks) × (from .0 < count) × (getD (now dist) (from .0) 0 % 65536 < limits .blocks) × (length (now here) ≡ limits .columns) × (length (now path) ≡ limits .blocks) ⌝ }
+    ensures { λ r. ⌜ outcome r (now (here .exit)) (now (path .exit)) ≡ followBy columns steps count (now (needs .entry)) (now (lands .entry)) (now (goals .entry)) (now (costs .entry)) (now (sets .entry)) (now (dist .entry)) (getD (now (dist .entry)) (from .0) 0 % 65536) 0 from (now (here .entry)) (now (path .entry)) ⌝ ∗ ⌜ Known steps r (now (path .exit)) × (length (now (here .exit)) ≡ limits .columns) × (length (now (path .exit)) ≡ limits .blocks) ⌝ ∗ ⌜ ((t : Task) (cs : List Cut) (x : State) (d : Distance) → Begins t cs x d columns steps count from (now (needs .entry)) (now (lands .entry)) (now (goals .entry)) (now (costs .entry)) (now (sets .entry)) (now (dist .entry)) (now (here .entry)) → seen (d .cost) r (now (path .exit)) ≡ walked t columns count (now (sets .entry)) x from d) ⌝ }
+{
+    let a0 = from.0 as usize;
+    let n = (dist[a0] % 65536) as usize;
+    let mut a = from;
+    let mut i: usize = 0;
+    while i < n {
+        let turn = hop(
+            columns,
+            steps,
+            count,
+            a,
+            needs,
+            lands,
+            costs,
+            sets,
+            dist,
+            here,
+        );
+        match turn {
+            Turn::Went(s, b) => {
+                path[i] = s.0;
+                a = b;
+            }
+            Turn::Ended => {
+                break;
+            }
+            Turn::Flawed(cut) => {
+                return Found::Flaw(cut);
+            }
+        }
+        i += 1;
+    }
+    end(columns, i, a, goals, sets, here)
+}
