@@ -3,109 +3,21 @@
 //
 // The library exports no pass. To measure, mark `fill_distances` of crates/distances in a copy of the repository
 // `#[no_mangle] pub extern "C"`, build it with `rt staticlib distances`, and then here
-//     rustc -O bench/distances.rs -L COPY/target/staticlib -ldistances
-use std::time::Instant;
+//     rustc -O --out-dir target/bench bench/distances.rs -L COPY/target/staticlib -ldistances && target/bench/distances
+mod clock;
+mod models;
+mod plain;
 
-const NO_WAY: u64 = 16777215 * 65536;
-type Sets = [u32; 4096];
-type Steps = [u32; 2048];
+use clock::on_cpu;
+use models::Random;
+use plain::{Sets, Unwatched, Wants, NO_WAY};
 
 #[allow(improper_ctypes)]
 extern "C" {
     fn fill_distances(
-        columns: usize, steps: usize, count: usize, needs: &Steps, lands: &Steps, goals: &[u32; 16], costs: &[u16],
+        columns: usize, steps: usize, count: usize, needs: &Wants, lands: &Wants, goals: &[u32; 16], costs: &[u16],
         sets: &Sets, dist: &mut [u64; 256],
     );
-}
-
-// The same algorithm, function by function.
-mod plain {
-    use super::{Sets, Steps, NO_WAY};
-
-    fn fits_in(columns: usize, s: usize, a: usize, wants: &Steps, sets: &Sets) -> bool {
-        let (rs, ra) = (s * 16, a * 16);
-        for j in 0..columns {
-            if sets[ra + j] & wants[rs + j] != wants[rs + j] {
-                return false;
-            }
-        }
-        true
-    }
-
-    fn apart_mask(columns: usize, b: usize, a: usize, sets: &Sets) -> u32 {
-        let mut w = 0;
-        for j in 0..columns {
-            w += if sets[a * 16 + j] & sets[b * 16 + j] == 0 { 1 << j } else { 0 };
-        }
-        w
-    }
-
-    fn nearest(count: usize, dist: &[u64; 256], done: &[u8; 256]) -> usize {
-        let (mut best, mut low) = (count, NO_WAY);
-        for i in 0..count {
-            if done[i] == 0 && dist[i] < low {
-                low = dist[i];
-                best = i;
-            }
-        }
-        best
-    }
-
-    fn sweep(count: usize, s: usize, k: u64, kept: u32, apart: &[u32; 256], takes: &[u32; 1024], dist: &mut [u64; 256]) {
-        let row = s / 32 * 256;
-        let bit = 1 << (s % 32);
-        for a in 0..count {
-            if k < dist[a] && takes[row + a] & bit != 0 && kept & apart[a] == 0 {
-                dist[a] = k;
-            }
-        }
-    }
-
-    #[inline(never)]
-    pub fn fill_distances(
-        columns: usize, steps: usize, count: usize, needs: &Steps, lands: &Steps, goals: &[u32; 16], costs: &[u16],
-        sets: &Sets, dist: &mut [u64; 256],
-    ) {
-        let mut kept = [0u32; 128];
-        let mut takes = [0u32; 1024];
-        let mut apart = [0u32; 256];
-        let mut done = [0u8; 256];
-        for s in 0..steps {
-            for j in 0..columns {
-                kept[s] += if lands[s * 16 + j] == 0 { 1 << j } else { 0 };
-            }
-        }
-        for g in 0..(steps + 31) / 32 {
-            for a in 0..count {
-                let mut w = 0;
-                for i in 0..32 {
-                    w += if fits_in(columns, g * 32 + i, a, needs, sets) { 1 << i } else { 0 };
-                }
-                takes[g * 256 + a] = w;
-            }
-        }
-        for a in 0..count {
-            let goal = (0..columns).all(|j| sets[a * 16 + j] & goals[j] == goals[j]);
-            dist[a] = if goal { 0 } else { NO_WAY };
-        }
-        loop {
-            let b = nearest(count, dist, &done);
-            if b >= count {
-                break;
-            }
-            done[b] = 1;
-            for a in 0..count {
-                apart[a] = apart_mask(columns, b, a, sets);
-            }
-            let base = dist[b];
-            for s in 0..steps {
-                let k = base + costs[s] as u64 * 65536 + 1;
-                if fits_in(columns, s, b, lands, sets) {
-                    sweep(count, s, k, kept[s], &apart, &takes, dist);
-                }
-            }
-        }
-    }
 }
 
 struct Case {
@@ -151,14 +63,8 @@ fn slow(c: &Case) -> Vec<Option<(u64, u64)>> {
     }
 }
 
-// Seconds that this process has had on a processor, so that others on the machine do not count.
-fn on_cpu() -> f64 {
-    let told = std::fs::read_to_string("/proc/self/schedstat").unwrap_or_default();
-    told.split(' ').next().and_then(|n| n.parse::<f64>().ok()).unwrap_or(0.0) / 1e9
-}
-
 fn run(c: &Case, reps: usize) {
-    let bit = |m: u8| if m == 0 { 0 } else { 1u32 << (m - 1) };
+    let bit = plain::mark_set;
     let mut needs = [0u32; 2048];
     let mut lands = [0u32; 2048];
     for i in 0..c.steps * 16 {
@@ -174,12 +80,12 @@ fn run(c: &Case, reps: usize) {
     let (mut ours, mut theirs) = (f64::MAX, f64::MAX);
     let (mut d1, mut d2) = ([7u64; 256], [7u64; 256]);
     for _ in 0..reps {
-        let t = Instant::now();
+        let t = on_cpu();
         unsafe { fill_distances(c.columns, c.steps, c.count, &needs, &lands, &goals, &c.costs, &sets, &mut d1) };
-        ours = ours.min(t.elapsed().as_secs_f64());
-        let t = Instant::now();
-        plain::fill_distances(c.columns, c.steps, c.count, &needs, &lands, &goals, &c.costs, &sets, &mut d2);
-        theirs = theirs.min(t.elapsed().as_secs_f64());
+        ours = ours.min(on_cpu() - t);
+        let t = on_cpu();
+        plain::fill_distances(c.columns, c.steps, c.count, &needs, &lands, &goals, &c.costs, &sets, &mut d2, &mut Unwatched);
+        theirs = theirs.min(on_cpu() - t);
     }
     assert!(d1 == d2, "{}", c.name);
     for (a, d) in slow(c).iter().enumerate() {
@@ -197,24 +103,13 @@ fn run(c: &Case, reps: usize) {
             all = all.min(on_cpu() - t);
             let t = on_cpu();
             for count in 1..=256 {
-                plain::fill_distances(c.columns, c.steps, count, &needs, &lands, &goals, &c.costs, &sets, &mut d2);
+                plain::fill_distances(c.columns, c.steps, count, &needs, &lands, &goals, &c.costs, &sets, &mut d2, &mut Unwatched);
             }
             plain_all = plain_all.min(on_cpu() - t);
         }
         let reached = d1[..c.count].iter().filter(|x| **x < NO_WAY).count();
         println!("{:28} {:7.3} ms, plain Rust {:7.3} ms, ratio {:.2}, reached {reached}", c.name, ours * 1e3, theirs * 1e3, ours / theirs);
         println!("{:28} {:7.1} ms, plain Rust {:7.1} ms, ratio {:.2}", "    256 passes", all * 1e3, plain_all * 1e3, all / plain_all);
-    }
-}
-
-struct Random(u64);
-
-impl Random {
-    fn below(&mut self, k: u64) -> u64 {
-        self.0 ^= self.0 << 13;
-        self.0 ^= self.0 >> 7;
-        self.0 ^= self.0 << 17;
-        (self.0 >> 11) % k
     }
 }
 

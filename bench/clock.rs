@@ -1,0 +1,26 @@
+// Time that this thread has had on a processor, so that others on the machine do not count.
+#![allow(dead_code)] // each bench uses its part
+
+extern "C" {
+    fn clock_gettime(clock: i32, time: *mut [i64; 2]) -> i32;
+}
+
+const THREAD_CPU_TIME: i32 = 3; // on Linux
+
+// In seconds.
+pub fn on_cpu() -> f64 {
+    let mut t = [0; 2];
+    unsafe { clock_gettime(THREAD_CPU_TIME, &mut t) };
+    t[0] as f64 + t[1] as f64 / 1e9
+}
+
+pub fn timed<R>(call: impl FnOnce() -> R) -> (f64, R) {
+    let t = on_cpu();
+    let r = call();
+    (on_cpu() - t, r)
+}
+
+pub fn median(times: &mut [f64]) -> f64 {
+    times.sort_by(f64::total_cmp);
+    times[times.len() / 2]
+}
