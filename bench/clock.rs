@@ -24,3 +24,14 @@ pub fn median(times: &mut [f64]) -> f64 {
     times.sort_by(f64::total_cmp);
     times[times.len() / 2]
 }
+
+// The library's entry (number 0), if there is one, and the plain one (number 1), so often each. Who goes first changes, since the second
+// finds memory warm.
+pub fn in_turn<E: Copy>(library: Option<E>, plain: E, reps: usize) -> Vec<(usize, E)> {
+    let mut out = Vec::new();
+    for k in 0..reps {
+        let pair = [library.map(|e| (0, e)), Some((1, plain))];
+        out.extend([pair[k % 2], pair[1 - k % 2]].iter().flatten());
+    }
+    out
+}

@@ -20,7 +20,7 @@ mod models;
 mod plain;
 mod stack;
 
-use clock::{median, timed};
+use clock::{in_turn, median, timed};
 use models::{cut_sheet, random_cuts, states, Random};
 use plain::Unwatched;
 
@@ -113,11 +113,9 @@ fn measure(q: &Question, reps: usize) {
     }
     let (mut ours, mut theirs) = (Vec::new(), Vec::new());
     let mut estimates = [0; 256];
-    for _ in 0..reps {
-        if let Some(entry) = LIBRARY {
-            ours.push(timed(|| entry(&q.model, &q.sheet, &q.states, &mut estimates)).0);
-        }
-        theirs.push(timed(|| plain_question(&q.model, &q.sheet, &q.states, &mut estimates)).0);
+    for (i, entry) in in_turn(LIBRARY, plain_question as Entry, reps) {
+        let t = timed(|| entry(&q.model, &q.sheet, &q.states, &mut estimates)).0;
+        [&mut ours, &mut theirs][i].push(t);
     }
     let mut seen = values(&told[..256]);
     seen.sort();

@@ -8,7 +8,7 @@ mod models;
 mod plain;
 mod stack;
 
-use clock::{median, timed};
+use clock::{in_turn, median, timed};
 use models::Model;
 use plain::{Part, Unwatched, Watch};
 use std::time::Instant;
@@ -100,6 +100,11 @@ fn stack_of(entry: Entry, m: &Model) -> usize {
     })
 }
 
+// The median of sorted times and, since others on the machine only add, the least.
+fn shown(times: &[f64]) -> String {
+    format!("{:9.3} ms (least {:.3})", times[times.len() / 2] * 1e3, times[0] * 1e3)
+}
+
 fn measure(m: &Model, reps: usize) -> u64 {
     let told_plain = whole(plain_run, m);
     if let Some(entry) = LIBRARY {
@@ -108,19 +113,17 @@ fn measure(m: &Model, reps: usize) -> u64 {
     let sheet = m.sheet();
     let (mut cuts, mut rows) = ([0; 3060], [0; 3060]);
     let (mut ours, mut theirs) = (Vec::new(), Vec::new());
-    for _ in 0..reps {
-        if let Some(entry) = LIBRARY {
-            ours.push(timed(|| entry(&sheet, m.room, &mut cuts, &mut rows)).0);
-        }
-        theirs.push(timed(|| plain_run(&sheet, m.room, &mut cuts, &mut rows)).0);
+    for (i, entry) in in_turn(LIBRARY, plain_run as Entry, reps) {
+        let t = timed(|| entry(&sheet, m.room, &mut cuts, &mut rows)).0;
+        [&mut ours, &mut theirs][i].push(t);
     }
-    let theirs = median(&mut theirs) * 1e3;
     print!("{:48} {:36} ", m.name, told(told_plain.0));
+    let middle = median(&mut theirs);
     if let Some(entry) = LIBRARY {
-        let ours = median(&mut ours) * 1e3;
-        print!("{ours:9.3} ms, plain {theirs:9.3} ms, ratio {:.2}, stack {} and {}", ours / theirs, stack_of(entry, m), stack_of(plain_run, m));
+        let ratio = median(&mut ours) / middle;
+        print!("{}, plain {}, ratio {ratio:.2}, stack {} and {}", shown(&ours), shown(&theirs), stack_of(entry, m), stack_of(plain_run, m));
     } else {
-        print!("plain {theirs:9.3} ms, stack {}", stack_of(plain_run, m));
+        print!("plain {}, stack {}", shown(&theirs), stack_of(plain_run, m));
     }
     let p = watched(m);
     let all: f64 = p.seconds.iter().sum();
