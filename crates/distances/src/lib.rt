@@ -26,7 +26,7 @@ fn bit_if(t: bool, i: usize) -> u32
 }
 
 // Whether what step s wants lies in block a.
-fn fits_in(
+pub fn fits_in(
     columns: usize,
     s: usize,
     a: usize,
@@ -224,7 +224,7 @@ fn nearest(count: usize, dist: &[u64; Model::BLOCKS], done: &[u8; Model::BLOCKS]
 }
 
 // What a step adds to a distance: its cost, and one step.
-fn weigh(cost: u16) -> u64
+pub fn weigh(cost: u16) -> u64
     ensures { λ r. ⌜ (r ≡ cost * 65536 + 1) × (r ≤ 65535 * 65536 + 1) ⌝ }
 {
     (cost as u64) * 65536 + 1

@@ -1,33 +1,35 @@
 -- The search for the next hop on numbers finds the one of the definitions.
 use mathlib.Core.Path.{_≡_, refl, sym, _∙_, ap, ap₂}
 use mathlib.Core.Logic.{_⊎_, ⊎-elim, _≢_}
-use mathlib.Core.Bool.{Bool, true, false, _&&_, and-false}
+use mathlib.Core.Bool.{Bool, true, false, _&&_, not, cond, and-false}
 use mathlib.Core.List.{List}
 use mathlib.Core.Option.{Option, none, some}
 use Prim.Native.Nat.{ℕ, zero, suc, _+_, _-_, _*_, _<_, _≤_}
 use native.Mathlib.Nat.{not-suc-le-zero}
 use native.Mathlib.Omega.{arith}
 use native.Mathlib.Numerals.{add-one}
-use lib.Dec.{eqb}
-use lib.ListN.{length}
-use borrow.Author.Tests.{eq-eqb, ne-eqb}
+use lib.Dec.{eqb, ltb}
+use lib.ListN.{length, getD}
+use borrow.Author.Tests.{eq-eqb, ne-eqb, ltb-true, ltb-false, not-true}
 use Rattle.task.specs.declared.Step.{Step}
 use Rattle.task.specs.declared.Block.{Block}
 use Rattle.task.specs.Loops.{first, when}
 use Rattle.task.specs.Task.{Task, Accepted, step, block, costOf}
-use Rattle.task.proofs.LoopLaws.{below-suc, first-some, when-some}
+use Rattle.task.proofs.LoopLaws.{and-left, true-or-false, below-suc, all-false, all-fails, first-some, when-some}
 use Rattle.blocks.specs.Blocks.{Blocks}
 use Rattle.blocks.specs.Flat.{blocksIn}
+use Rattle.blocks.specs.Masks.{passes, leadsBy}
 use Rattle.blocks.proofs.FlatLaws.{blocks-length}
 use Rattle.blocks.proofs.MaskLaws.{leads-by}
 use Rattle.blocks.proofs.PartLaws.{same-or-not}
 use Rattle.distances.specs.Distances.{Distance, Hop, farOf, plus, leadsTo, distances}
+use Rattle.distances.specs.Arcs.{fitsIn}
 use Rattle.distances.specs.Ways.{noWay}
 use Rattle.distances.specs.Coded.{coded, codedAt, Tables}
 use Rattle.distances.proofs.JoinLaws.{far-small}
 use Rattle.run.specs.declared.Next.{Next}
 use Rattle.run.specs.Run.{keeps, nextHop}
-use Rattle.run.specs.Hops.{keepsIn, fitsBy, hop, nextIn, nextOf, nextBy, hopOf, Holds, NextIs}
+use Rattle.run.specs.Hops.{keepsIn, fitsBy, mayTake, hop, nextIn, nextOf, nextBy, hopOf, Holds, NextIs}
 
 -- ---- what is found first, turn by turn
 module _ {A : Type 0} (f : ℕ → Option A) where
@@ -49,6 +51,11 @@ pub first-ext : {A : Type 0} (n : ℕ) (f g : ℕ → Option A) → ((i : ℕ) �
 unfolding first
 first-ext zero f g e = refl
 first-ext (suc n) f g e = rw (first-ext n f g (λ i h. e i (omega arith)), e n (omega arith))
+
+first-empty : {A : Type 0} (n : ℕ) (f : ℕ → Option A) → ((i : ℕ) → i < n → f i ≡ none) → first n f ≡ none
+unfolding first
+first-empty zero f e = refl
+first-empty (suc n) f e = rw (first-empty n f (λ i h. e i (omega arith)), e n (omega arith))
 
 -- the two loops
 module _ (fits : ℕ → ℕ → Bool) where
@@ -94,24 +101,56 @@ keeps-some d e w s s′ =
     (λ (c : w + e .cost ≢ d .cost). ne-eqb x y (λ (z : x ≡ y). c (omega arith)) ∙ sym (rw (ne-eqb (w + e .cost) (d .cost) c)))
     (same-or-not (w + e .cost) (d .cost))
 
--- as code tests it, without a sum that may be too large
-pub keeps-low : (own w next : ℕ) → own ≤ next → false ≡ keepsIn own w next
-unfolding keepsIn
-keeps-low own w next h = sym (ne-eqb own (next + (w * 65536 + 1)) (λ z. omega arith))
-
-pub keeps-high : (own w next : ℕ) → next < own → eqb (own - next) (w * 65536 + 1) ≡ keepsIn own w next
-unfolding keepsIn
-keeps-high own w next h =
-    ⊎-elim
-    (λ (e : own - next ≡ w * 65536 + 1). eq-eqb _ _ e ∙ sym (eq-eqb own (next + (w * 65536 + 1)) (omega arith)))
-    (λ (e : own - next ≢ w * 65536 + 1). ne-eqb _ _ e ∙ sym (ne-eqb own (next + (w * 65536 + 1)) (λ z. e (omega arith))))
-    (same-or-not (own - next) (w * 65536 + 1))
-
 turned : (a b : Bool) → (a && b) ≡ (b && a)
 turned true true = refl
 turned true false = refl
 turned false true = refl
 turned false false = refl
+
+-- ---- a step that can't be taken, or weighs more than the distance, is passed over; of any other the rest of the distance is looked for
+module _ (columns : ℕ) (needs lands costs sets dist : List ℕ) (a s : ℕ) where
+  pub fits-rest : (b rest : ℕ) → mayTake columns needs costs sets dist a s ≡ true → rest ≡ getD dist a 0 - (getD costs s 0 * 65536 + 1)
+      → (eqb (getD dist b 0) rest && leadsBy columns needs lands sets s a b) ≡ fitsBy columns needs lands costs sets dist a s b
+  unfolding mayTake fitsBy keepsIn
+  fits-rest b rest m e =
+      let own : ℕ = getD dist a 0 in
+      let w : ℕ = getD costs s 0 * 65536 + 1 in
+      let next : ℕ = getD dist b 0 in
+      let l = ltb-false own w (not-true (ltb own w) (and-left (not (ltb own w)) _ m)) in
+      ap (λ (x : Bool). x && leadsBy columns needs lands sets s a b)
+      (⊎-elim
+      (λ (z : next ≡ rest). eq-eqb next rest z ∙ sym (eq-eqb own (next + w) (omega arith)))
+      (λ (z : next ≢ rest). ne-eqb next rest z ∙ sym (ne-eqb own (next + w) (λ y. z (omega arith))))
+      (same-or-not next rest))
+
+  no-lead : (b : ℕ) → fitsIn columns needs sets s a ≡ false → leadsBy columns needs lands sets s a b ≡ false
+  unfolding fitsIn leadsBy passes
+  no-lead b h = let r = all-false columns _ h in all-fails columns _ (r .0) (r .1) (rw (r .2))
+
+  no-fit : (b : ℕ) → mayTake columns needs costs sets dist a s ≡ false → fitsBy columns needs lands costs sets dist a s b ≡ false
+  unfolding mayTake fitsBy keepsIn
+  no-fit b m =
+      let own : ℕ = getD dist a 0 in
+      let w : ℕ = getD costs s 0 * 65536 + 1 in
+      ⊎-elim
+      (λ (h : ltb own w ≡ true). let l = ltb-true own w h in rw (ne-eqb own (getD dist b 0 + w) (λ z. omega arith)))
+      (λ (h : ltb own w ≡ false). let f : fitsIn columns needs sets s a ≡ false = rw h at m in rw (no-lead b f) (and-false (eqb own (getD dist b 0 + w))))
+      (true-or-false (ltb own w))
+
+  module _ (count last : ℕ) (is : last ≡ cond (mayTake columns needs costs sets dist a s) count 0) where
+    pub tried : (b : ℕ) → b < last → (mayTake columns needs costs sets dist a s ≡ true) × (b < count)
+    tried b h =
+        ⊎-elim (λ (m : mayTake columns needs costs sets dist a s ≡ true). let e : last ≡ count = rw m at is in (m, omega arith))
+        (λ (m : mayTake columns needs costs sets dist a s ≡ false). let e : last ≡ 0 = rw m at is in absurd (omega arith))
+        (true-or-false (mayTake columns needs costs sets dist a s))
+
+    -- no block is found for the step
+    pub none-found : first last (nextIn (fitsBy columns needs lands costs sets dist a) s) ≡ none → nextOf count (fitsBy columns needs lands costs sets dist a) s ≡ none
+    unfolding nextOf nextIn
+    none-found h =
+        ⊎-elim (λ (m : mayTake columns needs costs sets dist a s ≡ true). let e : last ≡ count = rw m at is in rw e at h)
+        (λ (m : mayTake columns needs costs sets dist a s ≡ false). first-empty count _ (λ b k. rw (no-fit b m)))
+        (true-or-false (mayTake columns needs costs sets dist a s))
 
 -- ---- the search on the tables is the one of the definitions
 module _ (t : Task) (columns steps count : ℕ) (needs lands goals costs sets dist : List ℕ) (tables : Tables t columns steps needs lands goals costs)

@@ -1,10 +1,10 @@
 -- The search for the next hop as code does it, on the numbers of the distances.
-use mathlib.Core.Bool.{Bool, _&&_}
+use mathlib.Core.Bool.{Bool, _&&_, not}
 use mathlib.Core.List.{List}
 use mathlib.Core.Option.{Option, none, some}
 use mathlib.Core.Path.{_≡_}
 use Prim.Native.Nat.{ℕ, _+_, _*_, _<_}
-use lib.Dec.{eqb}
+use lib.Dec.{eqb, ltb}
 use lib.ListN.{getD}
 use Rattle.task.specs.Loops.{first, when}
 use Rattle.task.specs.declared.Block.{Block}
@@ -12,6 +12,7 @@ use Rattle.task.specs.Task.{Task, step, block}
 use Rattle.blocks.specs.Blocks.{Blocks}
 use Rattle.blocks.specs.Masks.{leadsBy}
 use Rattle.distances.specs.Distances.{Distance, Hop, Table, farOf, distances}
+use Rattle.distances.specs.Arcs.{fitsIn}
 use Rattle.distances.specs.Coded.{codedAt}
 use Rattle.run.specs.Run.{nextHop}
 use Rattle.run.specs.declared.Next.{Next}
@@ -24,6 +25,10 @@ keepsIn own w next = eqb own (next + (w * 65536 + 1))
 -- step s leads from block a to block b and keeps the distance
 unfoldable pub fitsBy : ℕ → List ℕ → List ℕ → List ℕ → List ℕ → List ℕ → ℕ → ℕ → ℕ → Bool
 fitsBy columns needs lands costs sets dist a s b = keepsIn (getD dist a 0) (getD costs s 0) (getD dist b 0) && leadsBy columns needs lands sets s a b
+
+-- step s can be taken in block a, and weighs no more than a's distance
+unfoldable pub mayTake : ℕ → List ℕ → List ℕ → List ℕ → List ℕ → ℕ → ℕ → Bool
+mayTake columns needs costs sets dist a s = not (ltb (getD dist a 0) (getD costs s 0 * 65536 + 1)) && fitsIn columns needs sets s a
 
 abbrev pub hop : ℕ → ℕ → Hop
 hop s b = record { step = step s; to = block b }

@@ -1,14 +1,19 @@
 // A run: distances, trace, walk, cut, and again.
 ghost use mathlib.Core.Path.{_≡_};
 ghost use mathlib.Core.List.{List};
-ghost use Prim.Native.Nat.{ℕ, _<_, _≤_};
-ghost use lib.ListN.{length};
+ghost use mathlib.Core.Bool.{cond, _&&_};
+ghost use Prim.Native.Nat.{ℕ, _+_, _-_, _*_, _<_, _≤_};
+ghost use lib.Dec.{eqb};
+ghost use lib.ListN.{length, getD};
 ghost use Rattle.task.specs.Sizes.{limits};
 ghost use Rattle.task.specs.Task.{Task, Accepted};
 ghost use Rattle.blocks.specs.Flat.{blocksIn};
+ghost use Rattle.blocks.specs.Masks.{leadsBy};
 ghost use Rattle.distances.specs.Distances.{distances};
 ghost use Rattle.distances.specs.Coded.{Tables};
-ghost use Rattle.run.specs.Hops.{keepsIn, fitsBy, nextBy, hopOf, Holds, NextIs};
+ghost use Rattle.run.specs.Hops.{fitsBy, mayTake, nextBy, hopOf, Holds, NextIs};
+use distances::fits_in;
+use distances::weigh;
 use task::Block;
 use task::Model;
 use task::Step;
@@ -26,32 +31,57 @@ pub enum Next {
     Nothing,
 }
 
-// Whether the distance after a step of that cost, and the step, give the distance before it.
-fn keeps(own: u64, cost: u16, next: u64) -> bool
-    ensures { λ r. ⌜ r ≡ keepsIn own cost next ⌝ }
+// The distance that is left after a step of that cost, 0 where the step weighs more.
+fn after(own: u64, cost: u16) -> u64
+    ensures { λ r. ⌜ r ≡ own - (cost * 65536 + 1) ⌝ }
 {
-    if own <= next {
-        return false;
+    let weight = weigh(cost);
+    if own < weight {
+        return 0;
     }
-    own - next == (cost as u64) * 65536 + 1
+    own - weight
 }
 
-// Whether step s leads from block a to block b and keeps the distance.
+// How many blocks are to be tried for step s: none where it can't be taken in block a or weighs more than a's distance, so that most steps are
+// passed over with one test.
+fn to_try(
+    columns: usize,
+    count: usize,
+    a: usize,
+    s: usize,
+    needs: &[u32; Model::STEPS * Model::COLUMNS],
+    costs: &[u16],
+    sets: &[u32; Model::BLOCKS * Model::COLUMNS],
+    dist: &[u64; Model::BLOCKS],
+) -> usize
+    requires { ⌜ (columns ≤ limits .columns) × (a < limits .blocks) × (s < limits .steps) × (s < length (now costs)) ⌝ }
+    ensures { λ r. ⌜ r ≡ cond (mayTake columns (now (needs .entry)) (now (costs .entry)) (now (sets .entry)) (now (dist .entry)) a s) count 0 ⌝ }
+{
+    if dist[a] < weigh(costs[s]) {
+        return 0;
+    }
+    if !fits_in(columns, s, a, needs, sets) {
+        return 0;
+    }
+    count
+}
+
+// Whether step s leads from block a to block b, and the rest of a's distance is b's.
 fn fits(
     columns: usize,
     a: usize,
     s: usize,
     b: usize,
+    rest: u64,
     needs: &[u32; Model::STEPS * Model::COLUMNS],
     lands: &[u32; Model::STEPS * Model::COLUMNS],
-    costs: &[u16],
     sets: &[u32; Model::BLOCKS * Model::COLUMNS],
     dist: &[u64; Model::BLOCKS],
 ) -> bool
-    requires { ⌜ (columns ≤ limits .columns) × (a < limits .blocks) × (s < limits .steps) × (s < length (now costs)) × (b < limits .blocks) ⌝ }
-    ensures { λ r. ⌜ r ≡ fitsBy columns (now (needs .entry)) (now (lands .entry)) (now (costs .entry)) (now (sets .entry)) (now (dist .entry)) a s b ⌝ }
+    requires { ⌜ (columns ≤ limits .columns) × (a < limits .blocks) × (s < limits .steps) × (b < limits .blocks) ⌝ }
+    ensures { λ r. ⌜ r ≡ (eqb (getD (now (dist .entry)) b 0) rest && leadsBy columns (now (needs .entry)) (now (lands .entry)) (now (sets .entry)) s a b) ⌝ }
 {
-    if !keeps(dist[a], costs[s], dist[b]) {
+    if dist[b] != rest {
         return false;
     }
     blocks::leads(
@@ -84,9 +114,11 @@ pub fn next_hop(
     let mut s: usize = 0;
     let mut b: usize = 0;
     'steps: while s < steps {
+        let last = to_try(columns, count, from, s, needs, costs, sets, dist);
+        let rest = after(dist[from], costs[s]);
         b = 0;
-        while b < count {
-            if fits(columns, from, s, b, needs, lands, costs, sets, dist) {
+        while b < last {
+            if fits(columns, from, s, b, rest, needs, lands, sets, dist) {
                 break 'steps;
             }
             b += 1;

@@ -1,0 +1,63 @@
+use Rattle.run.specs.Hops.{mayTake}
+use borrow.Author.Tests.{lt-ltb, le-ltb, not-true, not-false}
+use mathlib.Core.Path.{sym, _∙_}
+use borrow.Author.Needs.{needs}
+use Rattle.run.proofs.to_try.Statement.{statement}
+use Rattle.run.proofs.to_try.Tie as tie
+use Rattle.run.proofs.to_try.Reads as reads
+use Rattle.run.proofs.to_try.Lts as lts
+use Rattle.distances.proofs.fits_in.Reads as fits-in-reads
+use Rattle.distances.proofs.weigh.Reads as weigh-reads
+
+-- src/lib.rt:60:8
+mul-if1 : tie.Need-mul-if1
+mul-if1 c = search needs
+
+-- src/lib.rt:60:8
+element-copy-out-if1 : tie.Need-element-copy-out-if1
+element-copy-out-if1 c = search needs
+
+-- src/lib.rt:60:24
+mul-weigh : tie.Need-mul-weigh
+mul-weigh c = search needs
+
+-- src/lib.rt:60:24
+shared-slice-read-weigh : tie.Need-shared-slice-read-weigh
+shared-slice-read-weigh c = search needs
+
+-- src/lib.rt:60:18
+weigh-requires : tie.Need-weigh-requires
+weigh-requires c κs = search needs
+
+-- src/lib.rt:61:9
+returns : tie.Need-returns
+unfolding mayTake
+returns c = rw (lt-ltb _ _ (rw (c .before .weigh .ensures .0) at (c .if1 .taken)))
+
+-- src/lib.rt:63:9
+fits-in-requires : tie.Need-fits-in-requires
+fits-in-requires c κs = search needs
+
+-- src/lib.rt:64:9
+returns-2 : tie.Need-returns-2
+unfolding mayTake
+returns-2 c = rw (le-ltb _ _ (rw (c .before .before .before .weigh .ensures .0) at (c .before .before .if1 .left)), sym (c .before .fits-in .ensures) ∙ not-true _ (c .if2 .taken))
+
+-- src/lib.rt:47:1
+returns-3 : tie.Need-returns-3
+unfolding mayTake
+returns-3 c = rw (le-ltb _ _ (rw (c .before .before .before .weigh .ensures .0) at (c .before .before .if1 .left)), sym (c .before .fits-in .ensures) ∙ not-false _ (c .if2 .left))
+
+pub to-try-spec : {M : Type 1} → statement M
+to-try-spec =
+    tie.close
+    (tie.spec
+    mul-if1
+    element-copy-out-if1
+    mul-weigh
+    shared-slice-read-weigh
+    weigh-requires
+    returns
+    fits-in-requires
+    returns-2
+    returns-3)
