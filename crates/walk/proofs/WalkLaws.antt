@@ -7,14 +7,14 @@ use mathlib.Core.Option.{Option, none, some}
 use Prim.Native.Nat.{ℕ, zero, suc, _+_, _*_, _%_, _≤_, _<_}
 use native.Mathlib.Omega.{arith}
 use native.Mathlib.Numerals.{add-one}
-use lib.ListN.{length, getD, set, length-set}
+use lib.ListN.{length, getD, set, length-set, length-map}
 use lib.Seq.{getD-set-same, getD-set-other}
 use Rattle.task.specs.declared.Step.{Step}
 use Rattle.task.specs.declared.Block.{Block}
 use Rattle.task.specs.Loops.{tab}
 use Rattle.task.specs.Sizes.{limits}
 use Rattle.task.specs.Task.{Task, State, Tenths, Accepted, step, stepCount, costOf, isState, isGoal, canTake, taken}
-use Rattle.task.proofs.LoopLaws.{and-left, and-right, true-or-false, tab-ext}
+use Rattle.task.proofs.LoopLaws.{and-left, and-right, true-or-false, tab-length, tab-ext}
 use Rattle.task.proofs.TaskLaws.{taken-state}
 use Rattle.blocks.specs.declared.Cut.{Cut}
 use Rattle.blocks.specs.Blocks.{Blocks, blockAt, inBlock, leads}
@@ -22,7 +22,7 @@ use Rattle.blocks.specs.Flat.{blocksIn}
 use Rattle.blocks.proofs.PartLaws.{Parts}
 use Rattle.blocks.proofs.FlatLaws.{blocks-length}
 use Rattle.blocks.proofs.CutLaws.{accepted-parts}
-use Rattle.distances.specs.Distances.{Distance, Hop, Table, plus, leadsTo, isPath, farOf, distances}
+use Rattle.distances.specs.Distances.{Distance, Hop, Table, plus, far, zeroFar, leadsTo, isPath, farOf, distances}
 use Rattle.distances.specs.Coded.{Tables, coded, codedAt}
 use Rattle.distances.proofs.JoinLaws.{far-small}
 use Rattle.run.specs.Run.{Walk, arrived, flawed, Look, planned, flaw, keeps, nextHop, trace, walk, cutFor, lookWalk}
@@ -31,6 +31,7 @@ use Rattle.run.proofs.TraceLaws.{keeps-some, next-lowest, trace-next, trace-non
 use Rattle.run.proofs.FlawLaws.{goal-flaw, need-flaw, back-flaw}
 use Rattle.run.proofs.HopLaws.{next-is}
 use Rattle.walk.specs.declared.Found.{Found}
+use Rattle.walk.specs.declared.Found.the-variants.{Plan}
 use Rattle.walk.specs.declared.Turn.{Turn}
 use Rattle.walk.specs.declared.Turn.the-variants.{Went, Ended, Flawed}
 use Rattle.walk.specs.Walking.{Stands, takesBy, landsBy, goalAtEnd, takenBy, needRow, backRow, cutBy, Followed, outcome, endBy, turnOn, turnBy, followBy, stepIn, seen, Known, Begins, walked}
@@ -52,11 +53,11 @@ module _ (t : Task) (v : Accepted t) (columns steps count : ℕ) (needs lands go
   abbrev bs : Blocks
   bs = blocksIn columns count sets
 
-  abbrev far : Table
-  far = distances t bs
+  abbrev ds : Table
+  ds = distances t bs
 
   abbrev hops : ℕ → Block → List Hop
-  hops n a = trace t bs far n a
+  hops n a = trace t bs ds n a
 
   abbrev left : ℕ → ℕ → Block → List ℕ → List ℕ → Followed
   left n i a here path = followBy columns steps count needs lands goals costs sets dist n i a here path
@@ -104,32 +105,32 @@ module _ (t : Task) (v : Accepted t) (columns steps count : ℕ) (needs lands go
   -- what n hops at most come to
   abbrev Follows : ℕ → Type 0
   Follows n =
-      (i : ℕ) (a : Block) (x : State) (here path : List ℕ) (d : Distance) → At x a here → farOf far a ≡ some d → d .steps ≡ n → i + n ≤ length path
+      (i : ℕ) (a : Block) (x : State) (here path : List ℕ) (d : Distance) → At x a here → farOf ds a ≡ some d → d .steps ≡ n → i + n ≤ length path
       → seenIn cost (left n i a here path) ≡ lookOn (tab i (stepIn path)) (hops n a) (walk t bs x a (hops n a))
 
   -- a hop on the tables is judged as the next hop of 01
-  turn-of : (a : Block) (here : List ℕ) (d : Distance) (o : Option Hop) → a .0 < count → farOf far a ≡ some d
-      → nextHop t bs far a d ≡ o
+  turn-of : (a : Block) (here : List ℕ) (d : Distance) (o : Option Hop) → a .0 < count → farOf ds a ≡ some d
+      → nextHop t bs ds a d ≡ o
       → turn a here ≡ turnOn columns needs lands sets a here o
   unfolding turnBy
   turn-of a here d o ha e q =
       ap (turnOn columns needs lands sets a here) (next-is t columns steps count needs lands goals costs sets dist tables (v .tenths) few holds a d ha e ∙ q)
 
   -- one hop more, along a hop that is found
-  module _ (n : ℕ) (ih : Follows n) (i : ℕ) (a : Block) (x : State) (here path : List ℕ) (d : Distance) (s : At x a here) (e : farOf far a ≡ some d) (k : d .steps ≡ suc n)
-      (l : i + suc n ≤ length path) (h : Hop) (q : nextHop t bs far a d ≡ some h) where
-    leads-keeps : (leadsTo t bs (h .step) a (h .to) && keeps d (costOf t (h .step)) (farOf far (h .to))) ≡ true
-    leads-keeps = next-lowest t bs far a d q .keeps
+  module _ (n : ℕ) (ih : Follows n) (i : ℕ) (a : Block) (x : State) (here path : List ℕ) (d : Distance) (s : At x a here) (e : farOf ds a ≡ some d) (k : d .steps ≡ suc n)
+      (l : i + suc n ≤ length path) (h : Hop) (q : nextHop t bs ds a d ≡ some h) where
+    leads-keeps : (leadsTo t bs (h .step) a (h .to) && keeps d (costOf t (h .step)) (farOf ds (h .to))) ≡ true
+    leads-keeps = next-lowest t bs ds a d q .keeps
 
     lead : leads t (h .step) (blockAt bs a) (blockAt bs (h .to)) ≡ true
     unfolding leadsTo
-    lead = and-left (leads t (h .step) (blockAt bs a) (blockAt bs (h .to))) (keeps d (costOf t (h .step)) (farOf far (h .to))) leads-keeps
+    lead = and-left (leads t (h .step) (blockAt bs a) (blockAt bs (h .to))) (keeps d (costOf t (h .step)) (farOf ds (h .to))) leads-keeps
 
     known : h .step .0 < stepCount t
-    known = next-lowest t bs far a d q .known
+    known = next-lowest t bs ds a d q .known
 
     to-made : h .to .0 < count
-    to-made = rw long at (next-lowest t bs far a d q .made)
+    to-made = rw long at (next-lowest t bs ds a d q .made)
 
     made : a .0 < length bs
     made = rw long (s .made)
@@ -167,7 +168,7 @@ module _ (t : Task) (v : Accepted t) (columns steps count : ℕ) (needs lands go
       unfolding turnOn walk plus
       went-on o =
           let w : turn a here ≡ Went (h .step) (h .to) = turn-of a here d (some h) (s .made) e q ∙ rw (takes, c, lands-there, o) in
-          let f = keeps-some d (costOf t (h .step)) (farOf far (h .to)) (and-right (leadsTo t bs (h .step) a (h .to)) _ leads-keeps) in
+          let f = keeps-some d (costOf t (h .step)) (farOf ds (h .to)) (and-right (leadsTo t bs (h .step) a (h .to)) _ leads-keeps) in
           let y : State = taken t (h .step) x in
           let z : suc (f .0 .steps) ≡ d .steps = ap (λ (g : Distance). g .steps) (f .2) in
           let there : At y (h .to) (takenBy columns lands here (h .step .0)) =
@@ -192,18 +193,18 @@ module _ (t : Task) (v : Accepted t) (columns steps count : ℕ) (needs lands go
         (true-or-false (canTake t (h .step) x))
 
   one-more : (n : ℕ) → Follows n → Follows (suc n)
-  one-more n ih i a x here path d s e k l = go (nextHop t bs far a d) refl
+  one-more n ih i a x here path d s e k l = go (nextHop t bs ds a d) refl
     where
       path-is : isPath t bs a (hops (suc n) a) ≡ true
       path-is = trace-path t bs (suc n) a d (rw long (s .made)) e k .0
 
-      go : (o : Option Hop) → nextHop t bs far a d ≡ o
+      go : (o : Option Hop) → nextHop t bs ds a d ≡ o
           → seenIn cost (left (suc n) i a here path) ≡ lookOn (tab i (stepIn path)) (hops (suc n) a) (walk t bs x a (hops (suc n) a))
       go none q =
-          let none-left : hops (suc n) a ≡ [] = trace-none t bs far n a d e q in
+          let none-left : hops (suc n) a ≡ [] = trace-none t bs ds n a d e q in
           let ends : turn a here ≡ Ended = unfold turnOn in turn-of a here d none (s .made) e q in
           rw (follow-ended columns steps count needs lands goals costs sets dist n i a here path ends, none-left) (end-is i a x here path s (rw none-left at path-is))
-      go (some h) q = rw (trace-next t bs far n a d h e q) (hopped n ih i a x here path d s e k l h q)
+      go (some h) q = rw (trace-next t bs ds n a d h e q) (hopped n ih i a x here path d s e k l h q)
 
   follow-is : (n : ℕ) → Follows n
   unfolding trace
@@ -216,11 +217,38 @@ module _ (t : Task) (v : Accepted t) (columns steps count : ℕ) (needs lands go
   look-whole d hs path arrived e = refl
   look-whole d hs path (flawed a x w) e = rw e
 
-  whole-is : (a : Block) (x : State) (here path : List ℕ) (d : Distance) → At x a here → farOf far a ≡ some d → d .steps ≤ length path → d .cost ≡ cost
+  whole-is : (a : Block) (x : State) (here path : List ℕ) (d : Distance) → At x a here → farOf ds a ≡ some d → d .steps ≤ length path → d .cost ≡ cost
       → seenIn cost (left (d .steps) 0 a here path) ≡ lookWalk t bs d (hops (d .steps) a) (walk t bs x a (hops (d .steps) a))
   whole-is a x here path d s e l c = follow-is (d .steps) 0 a x here path d s e refl (omega arith) ∙ look-whole d (hops (d .steps) a) path (walk t bs x a (hops (d .steps) a)) c
 
--- what a walk came to on the tables is what 01 says, of any task whose tables they are
+-- ---- a plan has as many steps as the block's distance
+far-length : (t : Task) (hs : List Hop) → far t hs .steps ≡ length hs
+unfolding far zeroFar plus
+far-length t [] = refl
+far-length t (h ∷ hs) = ap suc (far-length t hs)
+
+pub plan-long : (t : Task) (columns count : ℕ) (sets path : List ℕ) (x : State) (a : Block) (d : Distance) (n : ℕ) → a .0 < count → farOf (distances t (blocksIn columns count sets)) a ≡ some d
+    → seen (d .cost) (Plan n) path ≡ walked t columns count sets x a d → n ≡ d .steps
+unfolding seen walked
+plan-long t columns count sets path x a d n ha e q = go (walk t bs x a hs) q
+  where
+    bs : Blocks
+    bs = blocksIn columns count sets
+
+    hs : List Hop
+    hs = trace t bs (distances t bs) (d .steps) a
+
+    go : (w : Walk) → planned (tab n (stepIn path)) ≡ lookWalk t bs d hs w → n ≡ d .steps
+    go arrived q =
+        let l : tab n (stepIn path) ≡ map (λ h. h .step) hs = unfold lookWalk in cc in
+        sym (tab-length n (stepIn path))
+        ∙ ap length l
+        ∙ length-map hs (λ h. h .step)
+        ∙ sym (far-length t hs)
+        ∙ ap (λ (k : Distance). k .steps) (trace-path t bs (d .steps) a d (rw (blocks-length columns count sets) ha) e refl .1)
+    go (flawed a x w) q = let z : _≡_ {A = ℕ} 0 1 = unfold lookWalk in cc in absurd (omega arith)
+
+-- ---- what a walk came to on the tables is what 01 says, of any task whose tables they are
 module _ (columns steps count : ℕ) (a : Block) (needs lands goals costs sets dist here path : List ℕ) (few : count ≤ 256) (made : a .0 < count) (room : length path ≡ 256)
     (r : Found) (here′ path′ : List ℕ) (is : outcome r here′ path′ ≡ followBy columns steps count needs lands goals costs sets dist (getD dist (a .0) 0 % 65536) 0 a here path) where
   pub follow-right : (t : Task) (cs : List Cut) (x : State) (d : Distance) → Begins t cs x d columns steps count a needs lands goals costs sets dist here

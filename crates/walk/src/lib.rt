@@ -24,7 +24,7 @@ pub enum Found {
 }
 
 // What one hop came to: the state went on by a step to a block, the trace ended before it, or a flaw and its cut.
-pub enum Turn {
+enum Turn {
     Went(Step, Block),
     Ended,
     Flawed(Cut),

@@ -56,12 +56,14 @@ enum-known-turn-2 c = search needs
 -- src/lib.rt:351:17
 returns : tie.Need-returns Inv-loop μ-loop
 returns c =
+    let g = c .before .before .before .before .before .before .before .before .before .before .args in
+    let q = c .before .before .before .before .before .before .before .before .before .before .pre in
     let l = c .before .before .before .before .before .before .loop in
     let h = c .before .before .before .hop in
     let w = c .before .turn2 .given in
-    answers (c .before .before .before .before .before .before .before .before .before .before .args .columns) (c .before .before .before .before .before .before .before .before .before .before .args .steps) (c .before .before .before .before .before .before .before .before .before .before .args .count) (c .before .before .before .before .before .before .before .before .before .before .args .«from») (c .before .before .before .before .before .before .before .before .before .before .args .needs .now) (c .before .before .before .before .before .before .before .before .before .before .args .lands .now) (c .before .before .before .before .before .before .before .before .before .before .args .goals .now) (c .before .before .before .before .before .before .before .before .before .before .args .costs .now) (c .before .before .before .before .before .before .before .before .before .before .args .sets .now) (c .before .before .before .before .before .before .before .before .before .before .args .dist .now) (c .before .before .before .before .before .before .before .before .before .before .args .here .now) (c .before .before .before .before .before .before .before .before .before .before .args .path .now) (c .before .before .before .before .before .before .before .before .before .before .pre .3) (c .before .before .before .before .before .before .before .before .before .before .pre .4) (c .before .before .before .before .before .before .before .before .before .before .pre .7) _ _ _
-    (going-flawed (c .before .before .before .before .before .before .before .before .before .before .args .columns) (c .before .before .before .before .before .before .before .before .before .before .args .steps) (c .before .before .before .before .before .before .before .before .before .before .args .count) (c .before .before .before .before .before .before .before .before .before .before .args .needs .now) (c .before .before .before .before .before .before .before .before .before .before .args .lands .now) (c .before .before .before .before .before .before .before .before .before .before .args .goals .now) (c .before .before .before .before .before .before .before .before .before .before .args .costs .now) (c .before .before .before .before .before .before .before .before .before .before .args .sets .now) (c .before .before .before .before .before .before .before .before .before .before .args .dist .now) _ _ (l .i) (l .a) (l .here) (l .path) (l .inv) (h .result) _ (h .ensures .0) (h .ensures .1 .0) (c .before .before .before .before .before .loop-test .taken) (w .0 .0) (w .1))
-    (known-flawed (c .before .before .before .before .before .before .before .before .before .before .args .columns) (c .before .before .before .before .before .before .before .before .before .before .args .steps) (c .before .before .before .before .before .before .before .before .before .before .args .count) (c .before .before .before .before .before .before .before .before .before .before .args .needs .now) (c .before .before .before .before .before .before .before .before .before .before .args .lands .now) (c .before .before .before .before .before .before .before .before .before .before .args .goals .now) (c .before .before .before .before .before .before .before .before .before .before .args .costs .now) (c .before .before .before .before .before .before .before .before .before .before .args .sets .now) (c .before .before .before .before .before .before .before .before .before .before .args .dist .now) _ _ (l .i) (l .a) (l .here) (l .path) (l .inv) _) (h .ensures .1 .1) (l .inv .long)
+    answers (g .columns) (g .steps) (g .count) (g .«from») (g .needs .now) (g .lands .now) (g .goals .now) (g .costs .now) (g .sets .now) (g .dist .now) (g .here .now) (g .path .now) (q .3) (q .4) (q .7) _ _ _
+    (going-flawed (g .columns) (g .steps) (g .count) (g .needs .now) (g .lands .now) (g .goals .now) (g .costs .now) (g .sets .now) (g .dist .now) _ _ (l .i) (l .a) (l .here) (l .path) (l .inv) (h .result) _ (h .ensures .0) (h .ensures .1 .0) (c .before .before .before .before .before .loop-test .taken) (w .0 .0) (w .1))
+    (known-flawed (g .columns) (g .steps) (g .count) (g .needs .now) (g .lands .now) (g .goals .now) (g .costs .now) (g .sets .now) (g .dist .now) _ _ (l .i) (l .a) (l .here) (l .path) (l .inv) _) (h .ensures .1 .1) (l .inv .long)
 
 -- src/lib.rt:354:9
 add-i : tie.Need-add-i Inv-loop μ-loop
@@ -74,10 +76,11 @@ loop-less c = search needs
 -- src/lib.rt:329:5
 loop-again : tie.Need-loop-again Inv-loop μ-loop
 loop-again c =
+    let g = c .before .before .before .before .before .before .before .before .before .before .args in
     let l = c .before .before .before .before .before .before .loop in
     let h = c .before .before .before .hop in
     let w = c .before .turn .given in
-    going-more (c .before .before .before .before .before .before .before .before .before .before .args .columns) (c .before .before .before .before .before .before .before .before .before .before .args .steps) (c .before .before .before .before .before .before .before .before .before .before .args .count) (c .before .before .before .before .before .before .before .before .before .before .args .needs .now) (c .before .before .before .before .before .before .before .before .before .before .args .lands .now) (c .before .before .before .before .before .before .before .before .before .before .args .goals .now) (c .before .before .before .before .before .before .before .before .before .before .args .costs .now) (c .before .before .before .before .before .before .before .before .before .before .args .sets .now) (c .before .before .before .before .before .before .before .before .before .before .args .dist .now) _ _ (l .i) (l .a) (l .here) (l .path) (l .inv) (h .result) _ (h .ensures .0) (h .ensures .1 .0) (c .before .before .before .before .before .loop-test .taken) (w .0 .0) (w .0 .1 .0) (w .1) (h .ensures .1 .1) (search needs)
+    going-more (g .columns) (g .steps) (g .count) (g .needs .now) (g .lands .now) (g .goals .now) (g .costs .now) (g .sets .now) (g .dist .now) _ _ (l .i) (l .a) (l .here) (l .path) (l .inv) (h .result) _ (h .ensures .0) (h .ensures .1 .0) (c .before .before .before .before .before .loop-test .taken) (w .0 .0) (w .0 .1 .0) (w .1) (h .ensures .1 .1) (search needs)
 
 -- src/lib.rt:356:5
 end-requires : tie.Need-end-requires Inv-loop μ-loop
@@ -86,18 +89,19 @@ end-requires c κs = let m = c .before .before .loop .inv .made in search (m, ne
 -- src/lib.rt:308:1
 returns-2 : tie.Need-returns-2 Inv-loop μ-loop
 returns-2 c =
+    let g = c .before .before .before .before .before .before .before .args in
+    let q = c .before .before .before .before .before .before .before .pre in
     let l = c .before .before .before .loop in
-    let few = c .before .before .before .before .before .before .before .pre .5 in
     let ends = c .end .ensures in
     ⊎-elim
     (λ w.
-    answers (c .before .before .before .before .before .before .before .args .columns) (c .before .before .before .before .before .before .before .args .steps) (c .before .before .before .before .before .before .before .args .count) (c .before .before .before .before .before .before .before .args .«from») (c .before .before .before .before .before .before .before .args .needs .now) (c .before .before .before .before .before .before .before .args .lands .now) (c .before .before .before .before .before .before .before .args .goals .now) (c .before .before .before .before .before .before .before .args .costs .now) (c .before .before .before .before .before .before .before .args .sets .now) (c .before .before .before .before .before .before .before .args .dist .now) (c .before .before .before .before .before .before .before .args .here .now) (c .before .before .before .before .before .before .before .args .path .now) (c .before .before .before .before .before .before .before .pre .3) (c .before .before .before .before .before .before .before .pre .4) (c .before .before .before .before .before .before .before .pre .7) _ _ _
-    (going-all (c .before .before .before .before .before .before .before .args .columns) (c .before .before .before .before .before .before .before .args .steps) (c .before .before .before .before .before .before .before .args .count) (c .before .before .before .before .before .before .before .args .needs .now) (c .before .before .before .before .before .before .before .args .lands .now) (c .before .before .before .before .before .before .before .args .goals .now) (c .before .before .before .before .before .before .before .args .costs .now) (c .before .before .before .before .before .before .before .args .sets .now) (c .before .before .before .before .before .before .before .args .dist .now) _ _ (l .i) (l .a) (l .here) (l .path) (l .inv) _ _ (w .0 .left) (w .1) ends)
-    (known-end (c .before .before .before .before .before .before .before .args .columns) (c .before .before .before .before .before .before .before .args .steps) (c .before .before .before .before .before .before .before .args .count) (c .before .before .before .before .before .before .before .args .needs .now) (c .before .before .before .before .before .before .before .args .lands .now) (c .before .before .before .before .before .before .before .args .goals .now) (c .before .before .before .before .before .before .before .args .costs .now) (c .before .before .before .before .before .before .before .args .sets .now) (c .before .before .before .before .before .before .before .args .dist .now) _ _ (l .i) (l .a) (l .here) (l .path) (l .inv) _ _ ends few) (rw (w .1) (l .inv .wide)) (l .inv .long))
+    answers (g .columns) (g .steps) (g .count) (g .«from») (g .needs .now) (g .lands .now) (g .goals .now) (g .costs .now) (g .sets .now) (g .dist .now) (g .here .now) (g .path .now) (q .3) (q .4) (q .7) _ _ _
+    (going-all (g .columns) (g .steps) (g .count) (g .needs .now) (g .lands .now) (g .goals .now) (g .costs .now) (g .sets .now) (g .dist .now) _ _ (l .i) (l .a) (l .here) (l .path) (l .inv) _ _ (w .0 .left) (w .1) ends)
+    (known-end (g .columns) (g .steps) (g .count) (g .needs .now) (g .lands .now) (g .goals .now) (g .costs .now) (g .sets .now) (g .dist .now) _ _ (l .i) (l .a) (l .here) (l .path) (l .inv) _ _ ends (q .5)) (rw (w .1) (l .inv .wide)) (l .inv .long))
     (λ w.
-    answers (c .before .before .before .before .before .before .before .args .columns) (c .before .before .before .before .before .before .before .args .steps) (c .before .before .before .before .before .before .before .args .count) (c .before .before .before .before .before .before .before .args .«from») (c .before .before .before .before .before .before .before .args .needs .now) (c .before .before .before .before .before .before .before .args .lands .now) (c .before .before .before .before .before .before .before .args .goals .now) (c .before .before .before .before .before .before .before .args .costs .now) (c .before .before .before .before .before .before .before .args .sets .now) (c .before .before .before .before .before .before .before .args .dist .now) (c .before .before .before .before .before .before .before .args .here .now) (c .before .before .before .before .before .before .before .args .path .now) (c .before .before .before .before .before .before .before .pre .3) (c .before .before .before .before .before .before .before .pre .4) (c .before .before .before .before .before .before .before .pre .7) _ _ _
-    (going-ended (c .before .before .before .before .before .before .before .args .columns) (c .before .before .before .before .before .before .before .args .steps) (c .before .before .before .before .before .before .before .args .count) (c .before .before .before .before .before .before .before .args .needs .now) (c .before .before .before .before .before .before .before .args .lands .now) (c .before .before .before .before .before .before .before .args .goals .now) (c .before .before .before .before .before .before .before .args .costs .now) (c .before .before .before .before .before .before .before .args .sets .now) (c .before .before .before .before .before .before .before .args .dist .now) _ _ (l .i) (l .a) (l .here) (l .path) (l .inv) (w .2 .result) _ (w .2 .ensures .0) (w .2 .ensures .1 .0) (w .0 .taken) _ _ (w .4 .given .1) (w .5) ends)
-    (known-end (c .before .before .before .before .before .before .before .args .columns) (c .before .before .before .before .before .before .before .args .steps) (c .before .before .before .before .before .before .before .args .count) (c .before .before .before .before .before .before .before .args .needs .now) (c .before .before .before .before .before .before .before .args .lands .now) (c .before .before .before .before .before .before .before .args .goals .now) (c .before .before .before .before .before .before .before .args .costs .now) (c .before .before .before .before .before .before .before .args .sets .now) (c .before .before .before .before .before .before .before .args .dist .now) _ _ (l .i) (l .a) (l .here) (l .path) (l .inv) _ _ ends few) (rw (w .5) (w .2 .ensures .1 .1)) (l .inv .long))
+    answers (g .columns) (g .steps) (g .count) (g .«from») (g .needs .now) (g .lands .now) (g .goals .now) (g .costs .now) (g .sets .now) (g .dist .now) (g .here .now) (g .path .now) (q .3) (q .4) (q .7) _ _ _
+    (going-ended (g .columns) (g .steps) (g .count) (g .needs .now) (g .lands .now) (g .goals .now) (g .costs .now) (g .sets .now) (g .dist .now) _ _ (l .i) (l .a) (l .here) (l .path) (l .inv) (w .2 .result) _ (w .2 .ensures .0) (w .2 .ensures .1 .0) (w .0 .taken) _ _ (w .4 .given .1) (w .5) ends)
+    (known-end (g .columns) (g .steps) (g .count) (g .needs .now) (g .lands .now) (g .goals .now) (g .costs .now) (g .sets .now) (g .dist .now) _ _ (l .i) (l .a) (l .here) (l .path) (l .inv) _ _ ends (q .5)) (rw (w .5) (w .2 .ensures .1 .1)) (l .inv .long))
     (c .before .before .loop-test .came)
 
 pub follow-spec : {M : Type 1} → statement M

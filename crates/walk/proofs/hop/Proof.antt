@@ -31,51 +31,87 @@ enum-told c = search needs
 -- src/lib.rt:276:9
 returns : tie.Need-returns
 unfolding standsAfter
-returns c = (turn-ended (c .before .before .before .before .args .columns) (c .before .before .before .before .args .steps) (c .before .before .before .before .args .count) (c .before .before .before .before .args .needs .now) (c .before .before .before .before .args .lands .now) (c .before .before .before .before .args .costs .now) (c .before .before .before .before .args .sets .now) (c .before .before .before .before .args .dist .now) (c .before .before .before .before .args .a) (c .before .before .before .before .args .here .now) (c .before .before .next-hop .result) (c .before .before .next-hop .ensures .0) (c .enum-told .given .1), (refl, search needs))
+returns c =
+    let g = c .before .before .before .before .args in
+    let n = c .before .before .next-hop in
+    (turn-ended (g .columns) (g .steps) (g .count) (g .needs .now) (g .lands .now) (g .costs .now) (g .sets .now) (g .dist .now) (g .a) (g .here .now) _ (n .ensures .0) (c .enum-told .given .1), (refl, c .before .before .before .before .pre .5))
 
 -- src/lib.rt:278:9
 can-take-requires : tie.Need-can-take-requires
-can-take-requires c κs = let h = hop-below (c .before .before .before .before .before .before .args .columns) (c .before .before .before .before .before .before .args .steps) (c .before .before .before .before .before .before .args .count) (c .before .before .before .before .before .before .args .needs .now) (c .before .before .before .before .before .before .args .lands .now) (c .before .before .before .before .before .before .args .costs .now) (c .before .before .before .before .before .before .args .sets .now) (c .before .before .before .before .before .before .args .dist .now) (c .before .before .before .before .before .before .args .a) (c .before .before .before .before .before .before .args .here .now) (c .before .before .before .before .next-hop .result) (c .before .before .before .before .next-hop .ensures .0) (c .before .before .next .given .0 .0) (c .before .before .next .given .0 .1 .0) (c .before .before .next .given .1) in search (h, needs)
+can-take-requires c κs =
+    let g = c .before .before .before .before .before .before .args in
+    let n = c .before .before .before .before .next-hop in
+    let w = c .before .before .next .given in
+    let h = hop-below (g .columns) (g .steps) (g .count) (g .needs .now) (g .lands .now) (g .costs .now) (g .sets .now) (g .dist .now) (g .a) (g .here .now) _ (n .ensures .0) (w .0 .0) (w .0 .1 .0) (w .1) in
+    search (h, needs)
 
 -- src/lib.rt:279:29
 need-cut-requires : tie.Need-need-cut-requires
-need-cut-requires c κs = let h = hop-below (c .before .before .before .before .before .before .before .before .before .args .columns) (c .before .before .before .before .before .before .before .before .before .args .steps) (c .before .before .before .before .before .before .before .before .before .args .count) (c .before .before .before .before .before .before .before .before .before .args .needs .now) (c .before .before .before .before .before .before .before .before .before .args .lands .now) (c .before .before .before .before .before .before .before .before .before .args .costs .now) (c .before .before .before .before .before .before .before .before .before .args .sets .now) (c .before .before .before .before .before .before .before .before .before .args .dist .now) (c .before .before .before .before .before .before .before .before .before .args .a) (c .before .before .before .before .before .before .before .before .before .args .here .now) (c .before .before .before .before .before .before .before .next-hop .result) (c .before .before .before .before .before .before .before .next-hop .ensures .0) (c .before .before .before .before .before .next .given .0 .0) (c .before .before .before .before .before .next .given .0 .1 .0) (c .before .before .before .before .before .next .given .1) in search (h, needs)
+need-cut-requires c κs =
+    let g = c .before .before .before .before .before .before .before .before .before .args in
+    let n = c .before .before .before .before .before .before .before .next-hop in
+    let w = c .before .before .before .before .before .next .given in
+    let h = hop-below (g .columns) (g .steps) (g .count) (g .needs .now) (g .lands .now) (g .costs .now) (g .sets .now) (g .dist .now) (g .a) (g .here .now) _ (n .ensures .0) (w .0 .0) (w .0 .1 .0) (w .1) in
+    search (h, needs)
 
 -- src/lib.rt:279:9
 returns-2 : tie.Need-returns-2
 unfolding standsAfter
-returns-2 c = (
-  ap {B = Turn} Flawed (c .need-cut .ensures) ∙ turn-need (c .before .before .before .before .before .before .before .before .before .before .args .columns) (c .before .before .before .before .before .before .before .before .before .before .args .steps) (c .before .before .before .before .before .before .before .before .before .before .args .count) (c .before .before .before .before .before .before .before .before .before .before .args .needs .now) (c .before .before .before .before .before .before .before .before .before .before .args .lands .now) (c .before .before .before .before .before .before .before .before .before .before .args .costs .now) (c .before .before .before .before .before .before .before .before .before .before .args .sets .now) (c .before .before .before .before .before .before .before .before .before .before .args .dist .now) (c .before .before .before .before .before .before .before .before .before .before .args .a) (c .before .before .before .before .before .before .before .before .before .before .args .here .now) (c .before .before .before .before .before .before .before .before .next-hop .result) (c .before .before .before .before .before .before .before .before .next-hop .ensures .0) (c .before .before .before .before .before .before .next .given .0 .0) (c .before .before .before .before .before .before .next .given .0 .1 .0) (c .before .before .before .before .before .before .next .given .1) (sym (c .before .before .before .can-take .ensures) ∙ not-true _ (c .before .before .if1 .taken)),
-  (refl, search needs),
-)
+returns-2 c =
+    let g = c .before .before .before .before .before .before .before .before .before .before .args in
+    let n = c .before .before .before .before .before .before .before .before .next-hop in
+    let w = c .before .before .before .before .before .before .next .given in
+    let can = sym (c .before .before .before .can-take .ensures) ∙ not-true _ (c .before .before .if1 .taken) in
+    (ap {B = Turn} Flawed (c .need-cut .ensures) ∙ turn-need (g .columns) (g .steps) (g .count) (g .needs .now) (g .lands .now) (g .costs .now) (g .sets .now) (g .dist .now) (g .a) (g .here .now) _ (n .ensures .0) (w .0 .0) (w .0 .1 .0) (w .1) can, (refl, c .before .before .before .before .before .before .before .before .before .before .pre .5))
 
 -- src/lib.rt:281:9
 lands-in-requires : tie.Need-lands-in-requires
-lands-in-requires c κs = let h = hop-below (c .before .before .before .before .before .before .before .before .before .args .columns) (c .before .before .before .before .before .before .before .before .before .args .steps) (c .before .before .before .before .before .before .before .before .before .args .count) (c .before .before .before .before .before .before .before .before .before .args .needs .now) (c .before .before .before .before .before .before .before .before .before .args .lands .now) (c .before .before .before .before .before .before .before .before .before .args .costs .now) (c .before .before .before .before .before .before .before .before .before .args .sets .now) (c .before .before .before .before .before .before .before .before .before .args .dist .now) (c .before .before .before .before .before .before .before .before .before .args .a) (c .before .before .before .before .before .before .before .before .before .args .here .now) (c .before .before .before .before .before .before .before .next-hop .result) (c .before .before .before .before .before .before .before .next-hop .ensures .0) (c .before .before .before .before .before .next .given .0 .0) (c .before .before .before .before .before .next .given .0 .1 .0) (c .before .before .before .before .before .next .given .1) in search (h, needs)
+lands-in-requires c κs =
+    let g = c .before .before .before .before .before .before .before .before .before .args in
+    let n = c .before .before .before .before .before .before .before .next-hop in
+    let w = c .before .before .before .before .before .next .given in
+    let h = hop-below (g .columns) (g .steps) (g .count) (g .needs .now) (g .lands .now) (g .costs .now) (g .sets .now) (g .dist .now) (g .a) (g .here .now) _ (n .ensures .0) (w .0 .0) (w .0 .1 .0) (w .1) in
+    search (h, needs)
 
 -- src/lib.rt:282:29
 back-cut-requires : tie.Need-back-cut-requires
-back-cut-requires c κs = let h = hop-below (c .before .before .before .before .before .before .before .before .before .before .before .before .args .columns) (c .before .before .before .before .before .before .before .before .before .before .before .before .args .steps) (c .before .before .before .before .before .before .before .before .before .before .before .before .args .count) (c .before .before .before .before .before .before .before .before .before .before .before .before .args .needs .now) (c .before .before .before .before .before .before .before .before .before .before .before .before .args .lands .now) (c .before .before .before .before .before .before .before .before .before .before .before .before .args .costs .now) (c .before .before .before .before .before .before .before .before .before .before .before .before .args .sets .now) (c .before .before .before .before .before .before .before .before .before .before .before .before .args .dist .now) (c .before .before .before .before .before .before .before .before .before .before .before .before .args .a) (c .before .before .before .before .before .before .before .before .before .before .before .before .args .here .now) (c .before .before .before .before .before .before .before .before .before .before .next-hop .result) (c .before .before .before .before .before .before .before .before .before .before .next-hop .ensures .0) (c .before .before .before .before .before .before .before .before .next .given .0 .0) (c .before .before .before .before .before .before .before .before .next .given .0 .1 .0) (c .before .before .before .before .before .before .before .before .next .given .1) in search (h, needs)
+back-cut-requires c κs =
+    let g = c .before .before .before .before .before .before .before .before .before .before .before .before .args in
+    let n = c .before .before .before .before .before .before .before .before .before .before .next-hop in
+    let w = c .before .before .before .before .before .before .before .before .next .given in
+    let h = hop-below (g .columns) (g .steps) (g .count) (g .needs .now) (g .lands .now) (g .costs .now) (g .sets .now) (g .dist .now) (g .a) (g .here .now) _ (n .ensures .0) (w .0 .0) (w .0 .1 .0) (w .1) in
+    search (h, needs)
 
 -- src/lib.rt:282:9
 returns-3 : tie.Need-returns-3
 unfolding standsAfter
-returns-3 c = (
-  ap {B = Turn} Flawed (c .back-cut .ensures) ∙ turn-back (c .before .before .before .before .before .before .before .before .before .before .before .before .before .args .columns) (c .before .before .before .before .before .before .before .before .before .before .before .before .before .args .steps) (c .before .before .before .before .before .before .before .before .before .before .before .before .before .args .count) (c .before .before .before .before .before .before .before .before .before .before .before .before .before .args .needs .now) (c .before .before .before .before .before .before .before .before .before .before .before .before .before .args .lands .now) (c .before .before .before .before .before .before .before .before .before .before .before .before .before .args .costs .now) (c .before .before .before .before .before .before .before .before .before .before .before .before .before .args .sets .now) (c .before .before .before .before .before .before .before .before .before .before .before .before .before .args .dist .now) (c .before .before .before .before .before .before .before .before .before .before .before .before .before .args .a) (c .before .before .before .before .before .before .before .before .before .before .before .before .before .args .here .now) (c .before .before .before .before .before .before .before .before .before .before .before .next-hop .result) (c .before .before .before .before .before .before .before .before .before .before .before .next-hop .ensures .0) (c .before .before .before .before .before .before .before .before .before .next .given .0 .0) (c .before .before .before .before .before .before .before .before .before .next .given .0 .1 .0) (c .before .before .before .before .before .before .before .before .before .next .given .1) (sym (c .before .before .before .before .before .before .can-take .ensures) ∙ not-false _ (c .before .before .before .before .before .if1 .left)) (sym (c .before .before .before .lands-in .ensures) ∙ not-true _ (c .before .before .if2 .taken)),
-  (refl, search needs),
-)
+returns-3 c =
+    let g = c .before .before .before .before .before .before .before .before .before .before .before .before .before .args in
+    let n = c .before .before .before .before .before .before .before .before .before .before .before .next-hop in
+    let w = c .before .before .before .before .before .before .before .before .before .next .given in
+    let can = sym (c .before .before .before .before .before .before .can-take .ensures) ∙ not-false _ (c .before .before .before .before .before .if1 .left) in
+    let lands = sym (c .before .before .before .lands-in .ensures) ∙ not-true _ (c .before .before .if2 .taken) in
+    (ap {B = Turn} Flawed (c .back-cut .ensures) ∙ turn-back (g .columns) (g .steps) (g .count) (g .needs .now) (g .lands .now) (g .costs .now) (g .sets .now) (g .dist .now) (g .a) (g .here .now) _ (n .ensures .0) (w .0 .0) (w .0 .1 .0) (w .1) can lands, (refl, c .before .before .before .before .before .before .before .before .before .before .before .before .before .pre .5))
 
 -- src/lib.rt:284:5
 take-requires : tie.Need-take-requires
-take-requires c κs = let h = hop-below (c .before .before .before .before .before .before .before .before .before .before .before .before .args .columns) (c .before .before .before .before .before .before .before .before .before .before .before .before .args .steps) (c .before .before .before .before .before .before .before .before .before .before .before .before .args .count) (c .before .before .before .before .before .before .before .before .before .before .before .before .args .needs .now) (c .before .before .before .before .before .before .before .before .before .before .before .before .args .lands .now) (c .before .before .before .before .before .before .before .before .before .before .before .before .args .costs .now) (c .before .before .before .before .before .before .before .before .before .before .before .before .args .sets .now) (c .before .before .before .before .before .before .before .before .before .before .before .before .args .dist .now) (c .before .before .before .before .before .before .before .before .before .before .before .before .args .a) (c .before .before .before .before .before .before .before .before .before .before .before .before .args .here .now) (c .before .before .before .before .before .before .before .before .before .before .next-hop .result) (c .before .before .before .before .before .before .before .before .before .before .next-hop .ensures .0) (c .before .before .before .before .before .before .before .before .next .given .0 .0) (c .before .before .before .before .before .before .before .before .next .given .0 .1 .0) (c .before .before .before .before .before .before .before .before .next .given .1) in search (h, needs)
+take-requires c κs =
+    let g = c .before .before .before .before .before .before .before .before .before .before .before .before .args in
+    let n = c .before .before .before .before .before .before .before .before .before .before .next-hop in
+    let w = c .before .before .before .before .before .before .before .before .next .given in
+    let h = hop-below (g .columns) (g .steps) (g .count) (g .needs .now) (g .lands .now) (g .costs .now) (g .sets .now) (g .dist .now) (g .a) (g .here .now) _ (n .ensures .0) (w .0 .0) (w .0 .1 .0) (w .1) in
+    search (h, needs)
 
 -- src/lib.rt:259:1
 returns-4 : tie.Need-returns-4
 unfolding standsAfter
-returns-4 c = (
-  turn-went (c .before .before .before .before .before .before .before .before .before .before .before .before .before .args .columns) (c .before .before .before .before .before .before .before .before .before .before .before .before .before .args .steps) (c .before .before .before .before .before .before .before .before .before .before .before .before .before .args .count) (c .before .before .before .before .before .before .before .before .before .before .before .before .before .args .needs .now) (c .before .before .before .before .before .before .before .before .before .before .before .before .before .args .lands .now) (c .before .before .before .before .before .before .before .before .before .before .before .before .before .args .costs .now) (c .before .before .before .before .before .before .before .before .before .before .before .before .before .args .sets .now) (c .before .before .before .before .before .before .before .before .before .before .before .before .before .args .dist .now) (c .before .before .before .before .before .before .before .before .before .before .before .before .before .args .a) (c .before .before .before .before .before .before .before .before .before .before .before .before .before .args .here .now) (c .before .before .before .before .before .before .before .before .before .before .before .next-hop .result) (c .before .before .before .before .before .before .before .before .before .before .before .next-hop .ensures .0) (c .before .before .before .before .before .before .before .before .before .next .given .0 .0) (c .before .before .before .before .before .before .before .before .before .next .given .0 .1 .0) (c .before .before .before .before .before .before .before .before .before .next .given .1) (sym (c .before .before .before .before .before .before .can-take .ensures) ∙ not-false _ (c .before .before .before .before .before .if1 .left)) (sym (c .before .before .before .lands-in .ensures) ∙ not-false _ (c .before .before .if2 .left)),
-  (c .take .ensures .0, c .take .ensures .1),
-)
+returns-4 c =
+    let g = c .before .before .before .before .before .before .before .before .before .before .before .before .before .args in
+    let n = c .before .before .before .before .before .before .before .before .before .before .before .next-hop in
+    let w = c .before .before .before .before .before .before .before .before .before .next .given in
+    let can = sym (c .before .before .before .before .before .before .can-take .ensures) ∙ not-false _ (c .before .before .before .before .before .if1 .left) in
+    let lands = sym (c .before .before .before .lands-in .ensures) ∙ not-false _ (c .before .before .if2 .left) in
+    (turn-went (g .columns) (g .steps) (g .count) (g .needs .now) (g .lands .now) (g .costs .now) (g .sets .now) (g .dist .now) (g .a) (g .here .now) _ (n .ensures .0) (w .0 .0) (w .0 .1 .0) (w .1) can lands, c .take .ensures)
 
 pub hop-spec : {M : Type 1} → statement M
 hop-spec =
