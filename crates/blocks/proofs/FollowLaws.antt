@@ -137,7 +137,7 @@ module _ (t : Task) (v : Accepted t) where
       let r = here l x is n h in
       block-only t (blocksOf t (cutsIn n l)) (accepted-parts t v (cutsIn n l) h) x is (block (followed l x n)) (r .1) (r .0)
 
-  cut-columns : (l : List ℕ) (n : ℕ) → accepted t (cutsIn n l) ≡ true → (i : ℕ) → i < n → getD l (i * 3 + 1) 0 < columnCount t
+  pub cut-columns : (l : List ℕ) (n : ℕ) → accepted t (cutsIn n l) ≡ true → (i : ℕ) → i < n → getD l (i * 3 + 1) 0 < columnCount t
   unfolding cutAt
   cut-columns l zero h i b = absurd (not-suc-le-zero b)
   cut-columns l (suc n) h i b =

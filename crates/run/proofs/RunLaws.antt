@@ -112,7 +112,7 @@ module _ (t : Task) where
     pub right : Right room (o .made) (o .answer)
 
 module _ (t : Task) (v : Accepted t) where
-  flaw-accepted : (cs : List Cut) → accepted t cs ≡ true → {e : Tenths} {c : Cut} → look t (blocksOf t cs) ≡ flaw e c → accepted t (cs ++ (c ∷ [])) ≡ true
+  pub flaw-accepted : (cs : List Cut) → accepted t cs ≡ true → {e : Tenths} {c : Cut} → look t (blocksOf t cs) ≡ flaw e c → accepted t (cs ++ (c ∷ [])) ≡ true
   flaw-accepted cs ok {e} {c} q =
       let r : LookRight t v cs ok (flaw e c) = subst (LookRight t v cs ok) q (look-right t v cs ok) in
       accepted-more t cs c ok (fits-ok t (blocksOf t cs) c (r .0))

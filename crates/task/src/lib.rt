@@ -160,7 +160,7 @@ pub fn moved(mark: Mark, position: Position) -> Position
 }
 
 // A step's cost in a wider number, with the bound that a sum of costs needs.
-fn tenths(cost: u16) -> u32
+pub fn tenths(cost: u16) -> u32
     ensures { λ r. ⌜ (r ≡ cost) × (r ≤ 65535) ⌝ }
 {
     cost as u32

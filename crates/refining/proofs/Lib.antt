@@ -1,0 +1,4 @@
+pub mod CutListLaws
+pub mod RefineLaws
+pub mod LookLaws
+pub mod ModelLaws

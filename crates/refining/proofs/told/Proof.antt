@@ -1,0 +1,26 @@
+use Rattle.refining.specs.Refining.{toldBy}
+use borrow.Author.Needs.{needs}
+use Rattle.refining.proofs.told.Statement.{statement}
+use Rattle.refining.proofs.told.Tie as tie
+use Rattle.refining.proofs.told.Reads as reads
+use Rattle.refining.proofs.told.Lts as lts
+
+enum-known-found : tie.Need-enum-known-found
+enum-known-found c = search needs
+
+enum-known-found-2 : tie.Need-enum-known-found-2
+enum-known-found-2 c = search needs
+
+cast-t7 : tie.Need-cast-t7
+cast-t7 c = search needs
+
+returns : tie.Need-returns
+unfolding toldBy
+returns c = rw (c .before .found .given .1)
+
+returns-2 : tie.Need-returns-2
+unfolding toldBy
+returns-2 c = rw (c .before .found2 .given .1)
+
+pub told-spec : {M : Type 1} → statement M
+told-spec = tie.close (tie.spec enum-known-found enum-known-found-2 cast-t7 returns returns-2)
