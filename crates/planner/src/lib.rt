@@ -7,5 +7,7 @@ pub use cut_writing::CutsWritten;
 pub use cut_writing::write_cuts;
 pub use reading::ModelRead;
 pub use reading::read_model;
+pub use running::Answer;
+pub use running::run;
 pub use writing::write::SheetWritten;
 pub use writing::write::write_model;

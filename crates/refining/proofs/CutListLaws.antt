@@ -8,9 +8,9 @@ use lib.ListN.{length, getD, set, length-set}
 use lib.Seq.{getD-set-same, getD-set-other}
 use Rattle.task.proofs.LoopLaws.{tab-ext}
 use Rattle.fields.specs.Places.{puts}
-use Rattle.fields.proofs.PlaceLaws.{puts-append, puts-length}
+use Rattle.fields.proofs.PlaceLaws.{puts-append}
 use Rattle.blocks.specs.declared.Cut.{Cut}
-use Rattle.blocks.specs.Flat.{cut, cutAt, cutsIn}
+use Rattle.blocks.specs.Flat.{cutAt, cutsIn}
 use Rattle.blocks.proofs.FollowLaws.{cuts-more, cuts-length}
 use Rattle.refining.specs.Listing.{listed, cutPlace}
 

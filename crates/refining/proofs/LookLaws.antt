@@ -1,34 +1,32 @@
 -- Laws for one look: what code finds from the distances and the walk is the definition's look at the blocks.
 use Prim.Native.Nat.{ℕ, suc, _+_, _*_, _/_, _%_, _≤_, _<_}
 use native.Mathlib.Omega.{arith}
-use mathlib.Core.Path.{_≡_, refl, sym, ap, _∙_, subst}
+use mathlib.Core.Path.{_≡_, refl, sym, ap, _∙_}
 use mathlib.Core.Bool.{true}
 use mathlib.Core.List.{List}
-use mathlib.Core.Option.{Option, none, some, Option·getD}
+use mathlib.Core.Option.{Option, some, Option·getD}
 use lib.ListN.{length, getD, take}
 use lib.Seq.{getD-take}
 use Rattle.task.specs.declared.Block.{Block}
-use Rattle.task.specs.declared.Column.{Column}
 use Rattle.task.specs.Loops.{tab, over}
-use Rattle.task.specs.Task.{Task, State, column, position, block, at, columnCount, startAt, sizeOf, isState, start}
+use Rattle.task.specs.Task.{Task, State, column, position, block, at, columnCount, isState, start}
 use Rattle.task.proofs.TaskLaws.{start-state, position-below}
-use Rattle.blocks.specs.declared.Cut.{Cut}
-use Rattle.blocks.specs.Blocks.{Blocks, only, inBlock, blockAt, blocksOf, blockOf}
+use Rattle.blocks.specs.Blocks.{Blocks, only, blocksOf, blockOf}
 use Rattle.blocks.specs.Flat.{blocksIn, cutsIn}
 use Rattle.blocks.proofs.CutLaws.{BlockIs, accepted-parts, block-of, blocks-length}
 use Rattle.blocks.proofs.FollowLaws.{cuts-length, cut-columns}
-use Rattle.distances.specs.Distances.{Distance, Table, farOf, distances}
+use Rattle.distances.specs.Distances.{Distance, farOf, distances}
 use Rattle.distances.specs.Ways.{noWay}
-use Rattle.distances.specs.Coded.{Tables, decoded, codedAt, codedOver}
+use Rattle.distances.specs.Coded.{decoded, codedAt, codedOver}
 use Rattle.distances.proofs.JoinLaws.{far-small, coded-says, decoded-low, decoded-high, over-front}
 use Rattle.run.specs.Hops.{Holds}
 use Rattle.run.specs.Run as run
 use Rattle.run.specs.Run.{Look, hopeless, lookFrom, look}
 use Rattle.walk.specs.declared.Found.{Found}
 use Rattle.walk.specs.declared.Found.the-variants as walk
-use Rattle.walk.specs.Walking.{Stands, Begins, stepIn, seen, Known, walked}
+use Rattle.walk.specs.Walking.{Stands, Begins, seen, Known, walked}
 use Rattle.refining.specs.Listing.{pathSteps}
-use Rattle.refining.specs.declared.Seen.the-variants.{Hopeless, Planned, Flaw}
+use Rattle.refining.specs.declared.Seen.the-variants.{Flaw}
 use Rattle.refining.specs.Refining.{Given, Made, lookOf, toldBy, KnownSeen}
 
 -- ---- what was told of a walk

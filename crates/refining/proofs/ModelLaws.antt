@@ -1,23 +1,21 @@
 -- The tables, the start and the first block of a model are those of its task.
-use Prim.Native.Nat.{ℕ, zero, suc, _≤_, _<_}
+use Prim.Native.Nat.{ℕ, zero, suc, _≤_}
 use native.Mathlib.Omega.{arith}
-use mathlib.Core.Path.{_≡_, refl, sym, ap, ap₂, _∙_, subst}
-use mathlib.Core.Bool.{true}
+use mathlib.Core.Path.{_≡_, refl, sym, ap, _∙_, subst}
 use mathlib.Core.List.{List, [], _∷_, _++_}
 use lib.ListN.{length, getD, take}
 use lib.Seq.{take-suc}
 use Rattle.task.specs.declared.Model.{Model}
 use Rattle.task.specs.Loops.{tab, over}
 use Rattle.task.specs.Tables.{taskOf}
-use Rattle.task.specs.Task.{Task, Accepted, column, position, columnCount, startAt, perColumn, start}
+use Rattle.task.specs.Task.{Accepted, column, position, startAt, perColumn, start}
 use Rattle.task.proofs.LoopLaws.{tab-ext}
 use Rattle.task.proofs.TableLaws.{columns-of, start-of}
 use Rattle.blocks.specs.Blocks.{whole, cutsOk, cutAll, accepted, blocksOf}
-use Rattle.blocks.specs.Flat.{blocksIn, cutsIn}
+use Rattle.blocks.specs.Flat.{blocksIn}
 use Rattle.blocks.specs.Masks.{needSets, landSets, goalSets}
 use Rattle.blocks.proofs.FlatLaws.{first-made, first-long}
 use Rattle.blocks.proofs.FollowLaws.{cuts-none}
-use Rattle.distances.specs.Coded.{Tables}
 use Rattle.distances.proofs.JoinLaws.{model-tables}
 use Rattle.refining.specs.Refining.{Given, Made}
 

@@ -1,31 +1,30 @@
 -- Laws for the loop of a run: each cut that it makes is the one of the definition, and where it ends the run ends.
 use Prim.Native.Nat.{ℕ, zero, suc, _+_, _-_, _*_, _≤_, _<_}
 use native.Mathlib.Omega.{arith}
-use mathlib.Core.Path.{_≡_, refl, sym, ap, _∙_, subst}
+use mathlib.Core.Path.{_≡_, refl, sym, ap, _∙_}
 use mathlib.Core.Bool.{true}
 use mathlib.Core.List.{List, [], _∷_, _++_}
-use mathlib.Core.Option.{Option, none, some}
+use mathlib.Core.Option.{none}
 use lib.ListN.{length}
 use Rattle.task.specs.Loops.{over}
 use Rattle.task.specs.Task.{Task, State, Accepted, Tenths, columnCount}
 use Rattle.fields.specs.Places.{puts}
 use Rattle.fields.proofs.PlaceLaws.{puts-length, puts-over}
 use Rattle.blocks.specs.declared.Cut.{Cut}
-use Rattle.blocks.specs.Blocks.{cutsOk, accepted, blocksOf}
+use Rattle.blocks.specs.Blocks.{accepted, blocksOf}
 use Rattle.blocks.specs.Flat.{blocksIn, cutsIn, cutIn}
-use Rattle.blocks.proofs.PartLaws.{CutFits, fits}
+use Rattle.blocks.proofs.PartLaws.{fits}
 use Rattle.blocks.proofs.CutLaws.{blocks-length}
 use Rattle.blocks.proofs.FlatLaws.{cut-in-length}
 use Rattle.blocks.proofs.FollowLaws.{cuts-none, cuts-length, cut-kept, accepted-less}
 use Rattle.run.specs.Run as run
-use Rattle.run.specs.Run.{Look, hopeless, planned, flaw, look, Answer, cutOf, endOf, Outcome, refine}
+use Rattle.run.specs.Run.{flaw, look, cutOf, endOf, Outcome, refine}
 use Rattle.run.proofs.RunLaws.{flaw-accepted}
 use Rattle.refining.specs.declared.Seen.the-variants.{Hopeless, Planned, Flaw}
 use Rattle.refining.specs.declared.Seen as code
 use Rattle.refining.specs.declared.Ended.{Ended}
-use Rattle.refining.specs.declared.Ended.the-variants.{Plan, NoPlan, Open}
 use Rattle.refining.specs.Listing.{listed, cutPlace}
-use Rattle.refining.specs.Refining.{Given, Made, lookOf, answerOf, blocksTold, endBy, Named, KnownSeen, KnownEnd, RunEnds}
+use Rattle.refining.specs.Refining.{Given, Made, lookOf, answerOf, blocksTold, endBy, KnownSeen, KnownEnd, RunEnds}
 use Rattle.refining.proofs.CutListLaws.{cut-put, list-more, listed-length}
 
 -- ---- the definition's loop

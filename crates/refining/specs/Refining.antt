@@ -1,9 +1,9 @@
 -- The run as code makes it: a look at the blocks that stand in an array, and the cuts in a lent list.
-use Prim.Native.Nat.{ℕ, _+_, _/_, _<_}
+use Prim.Native.Nat.{ℕ, _+_, _*_, _/_, _≤_, _<_}
 use mathlib.Core.Path.{_≡_}
 use mathlib.Core.Bool.{true}
-use mathlib.Core.List.{List, []}
-use lib.ListN.{length, getD, take}
+use mathlib.Core.List.{List}
+use lib.ListN.{getD, take}
 use Rattle.task.specs.Loops.{over}
 use Rattle.task.specs.Sizes.{limits}
 use Rattle.task.specs.Task.{Task, State, Accepted, start}
@@ -11,7 +11,7 @@ use Rattle.blocks.specs.Blocks.{accepted, blocksOf}
 use Rattle.blocks.specs.Flat.{blocksIn, cutsIn}
 use Rattle.distances.specs.Coded.{Tables}
 use Rattle.run.specs.Run as run
-use Rattle.run.specs.Run.{Outcome, hopeless, planned, flaw, plan, noPlan, «open», refine}
+use Rattle.run.specs.Run.{Outcome, hopeless, planned, flaw, plan, noPlan, «open»}
 use Rattle.walk.specs.declared.Found.{Found}
 use Rattle.walk.specs.declared.Found.the-variants as walk
 use Rattle.refining.specs.Listing.{listed, cutPlace, pathSteps}
@@ -78,6 +78,12 @@ unfoldable pub KnownEnd : ℕ → Ended → List ℕ → Type 0
 KnownEnd steps (Plan n b) path = Named steps n path
 KnownEnd steps (NoPlan b) path = Unit {0}
 KnownEnd steps (Open e b) path = Unit {0}
+
+-- a list has a place of three values for each step of a plan
+unfoldable pub StepsFit : Ended → ℕ → Type 0
+StepsFit (Plan n b) long = n * 3 ≤ long
+StepsFit (NoPlan b) long = Unit {0}
+StepsFit (Open e b) long = Unit {0}
 
 -- a run ended: its answer, its blocks, and its cuts in the lent list
 pub record RunEnds (o : Outcome) (r : Ended) (steps : ℕ) (cuts₀ cuts path : List ℕ) : Type 0 where

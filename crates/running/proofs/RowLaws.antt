@@ -1,21 +1,21 @@
 -- Laws for the code that puts the rows of a path into a list, from the last row to the first.
 use Prim.Native.Nat.{ℕ, zero, suc, _+_, _*_, _≤_, _<_}
 use native.Mathlib.Nat.{le-of-suc-le-suc, not-suc-le-zero}
-use native.Mathlib.Numerals.{add-one}
 use native.Mathlib.Omega.{arith}
 use mathlib.Core.Path.{_≡_, refl, sym, ap, ap₂, _∙_}
-use mathlib.Core.List.{List, [], _∷_, _++_}
-use lib.ListN.{length, getD, set, drop, length-set, length-append, drop-of-length-le}
+use mathlib.Core.List.{List, [], _∷_}
+use lib.ListN.{length, getD, set, drop, length-set, drop-of-length-le}
 use lib.Seq.{drop-cons}
 use Rattle.task.specs.declared.Step.{Step}
-use Rattle.task.specs.Loops.{tab, over}
+use Rattle.task.specs.Loops.{over}
 use Rattle.task.specs.Task.{Task, step, costOf, costs}
 use Rattle.task.proofs.LoopLaws.{tab-length, tab-at}
 use Rattle.fields.specs.Places.{puts}
 use Rattle.fields.proofs.PlaceLaws.{puts-over}
-use Rattle.run.specs.declared.Row.{Row}
 use Rattle.run.specs.Run.{rows}
+use Rattle.walk.specs.Walking.{stepIn}
 use Rattle.refining.specs.Listing.{listed, rowPlace, pathSteps}
+use Rattle.running.specs.Running.{Costed}
 
 -- ---- a value put before others
 set-swap : (l : List ℕ) (i j a b : ℕ) → i < j → set (set l j b) i a ≡ set (set l i a) j b
@@ -39,26 +39,22 @@ module _ (count : ℕ) (path cost list₀ : List ℕ) where
   abbrev steps : List Step
   steps = pathSteps count path
 
-  -- the steps of the path cost what the table says
-  abbrev pub Costed : Task → Type 0
-  Costed t = (i : ℕ) → i < count → costOf t (step (getD path i 0)) ≡ getD cost (getD path i 0) 0
-
   long : length steps ≡ count
   unfolding pathSteps
-  long = tab-length count (λ i. step (getD path i 0))
+  long = tab-length count (stepIn path)
 
-  rest : (i : ℕ) → i < count → drop i steps ≡ step (getD path i 0) ∷ drop (i + 1) steps
+  rest : (i : ℕ) → i < count → drop i steps ≡ stepIn path i ∷ drop (i + 1) steps
   unfolding pathSteps
   rest i h =
       let n : suc i ≡ i + 1 = omega arith in
-      drop-cons steps i (step 0) (omega (arith, long)) ∙ ap₂ (λ (s : Step) (k : ℕ). s ∷ drop k steps) (tab-at count (λ i. step (getD path i 0)) (step 0) i h) n
+      drop-cons steps i (step 0) (omega (arith, long)) ∙ ap₂ (λ (s : Step) (k : ℕ). s ∷ drop k steps) (tab-at count (stepIn path) (step 0) i h) n
 
   -- the rows from row i on stand in the list
   pub record RowsFrom (list : List ℕ) (left i : ℕ) : Type 0 where
     pub within : i ≤ count
     pub small : left + i * 65535 ≤ count * 65535
     pub same : length list ≡ length list₀
-    pub told : (t : Task) → Costed t → (left ≡ costs t (drop i steps)) × (list ≡ puts (i * 3) (listed rowPlace (rows t (drop i steps))) list₀)
+    pub told : (t : Task) → Costed t count path cost → (left ≡ costs t (drop i steps)) × (list ≡ puts (i * 3) (listed rowPlace (rows t (drop i steps))) list₀)
 
   pub rows-none : RowsFrom list₀ 0 count
   unfolding costs rows listed puts
@@ -72,7 +68,7 @@ module _ (count : ℕ) (path cost list₀ : List ℕ) where
 
   pub rows-more : {list : List ℕ} {left : ℕ} (i : ℕ) {k : ℕ} → RowsFrom list left k → k ≡ i + 1 → (paid : ℕ) → (paid ≡ getD cost (getD path i 0) 0) × (paid ≤ 65535)
       → RowsFrom (set (set (set list (i * 3) (getD path i 0)) (i * 3 + 1) paid) (i * 3 + 2) left) (left + paid) i
-  unfolding costs rows listed rowPlace puts
+  unfolding costs rows listed rowPlace puts stepIn
   rows-more {list} {left} i {k} r e paid p =
       record {
         within = omega (arith, r .within);
@@ -83,7 +79,7 @@ module _ (count : ℕ) (path cost list₀ : List ℕ) where
         told = λ t a.
             let h : i < count = omega (arith, r .within) in
             let d = rest i h in
-            let q : paid ≡ costOf t (step (getD path i 0)) = p .0 ∙ sym (a i h) in
+            let q : paid ≡ costOf t (stepIn path i) = p .0 ∙ sym (a i h) in
             let b = rw e at (r .told t a) in
             let xs = listed rowPlace (rows t (drop (i + 1) steps)) in
             let m : (i + 1) * 3 ≡ i * 3 + 1 + 1 + 1 = omega arith in
@@ -95,7 +91,7 @@ module _ (count : ℕ) (path cost list₀ : List ℕ) where
             (rw d (omega (arith, b .0, q)), l3 ∙ ap (λ (z : ℕ). puts (i * 3 + 1 + 1 + 1) xs (set (set (set list₀ (i * 3) (getD path i 0)) (i * 3 + 1) paid) z left)) n ∙ rw (d, sym q, sym (b .0)) refl);
       }
 
-  pub rows-end : {list : List ℕ} {left : ℕ} (i : ℕ) → RowsFrom list left i → i ≤ 0 → count * 3 ≤ length list₀ → (t : Task) → Costed t
+  pub rows-end : {list : List ℕ} {left : ℕ} (i : ℕ) → RowsFrom list left i → i ≤ 0 → count * 3 ≤ length list₀ → (t : Task) → Costed t count path cost
       → (left ≡ costs t steps) × (list ≡ over (listed rowPlace (rows t steps)) list₀)
   unfolding over
   rows-end {list} {left} i r h room t a =

@@ -4,11 +4,55 @@ ghost use Prim.Native.Nat.{ℕ, _*_, _≤_, _<_};
 ghost use lib.ListN.{length, getD};
 ghost use Rattle.task.specs.Loops.{over};
 ghost use Rattle.task.specs.Sizes.{limits};
-ghost use Rattle.task.specs.Task.{Task, step, costOf, costs};
-ghost use Rattle.run.specs.Run.{rows};
+ghost use Rattle.task.specs.Task.{Task, costs};
+ghost use Rattle.fields.specs.Judging.{refusal};
+ghost use Rattle.run.specs.Run.{rows, rowsOf};
 ghost use Rattle.refining.specs.Listing.{listed, rowPlace, pathSteps};
+ghost use Rattle.refining.specs.Refining.{answerOf, blocksTold, KnownEnd, StepsFit};
+ghost use Rattle.running.specs.Running.{Costed, PathCosts, roomChecks, told, outcome, running};
+use refining::Ended;
+use refining::refine;
 use task::Model;
 use task::tenths;
+use unpack::unpack_model;
+
+// A plan with its cost and its number of steps, no plan, or open with the start's estimate, each with the number of blocks; or a refusal.
+pub enum Answer {
+    Plan {
+        cost: u32,
+        steps: usize,
+        blocks: usize,
+    },
+    NoPlan {
+        blocks: usize,
+    },
+    Open {
+        estimate: u32,
+        blocks: usize,
+    },
+    Refused(u8),
+}
+
+// The refusal of a room and of the lists' lengths: 7, then 8; 0 for none.
+fn judge_room(room: u32, cuts: &[u32], rows: &[u32]) -> u8
+    ensures { λ r. ⌜ r ≡ refusal (roomChecks room (now (cuts .entry)) (now (rows .entry))) ⌝ }
+{
+    if room < 1 {
+        return 7;
+    }
+    let blocks = room as usize;
+    if Model::BLOCKS < blocks {
+        return 7;
+    }
+    let places = (blocks - 1) * 3;
+    if cuts.len() < places {
+        return 8;
+    }
+    if rows.len() < places {
+        return 8;
+    }
+    0
+}
 
 // Puts the rows of a path into a list, from the last to the first, and returns the cost of the path.
 fn fill_rows(
@@ -18,7 +62,7 @@ fn fill_rows(
     list: &mut [u32],
 ) -> u32
     requires { ⌜ (count < limits .blocks) × (count * 3 ≤ length (now list)) × ((i : ℕ) → i < count → getD (now path) i 0 < limits .steps) ⌝ }
-    ensures { λ r. ⌜ ((t : Task) → ((i : ℕ) → i < count → costOf t (step (getD (now (path .entry)) i 0)) ≡ getD (now (cost .entry)) (getD (now (path .entry)) i 0) 0) → (r ≡ costs t (pathSteps count (now (path .entry)))) × (now (list .exit) ≡ over (listed rowPlace (rows t (pathSteps count (now (path .entry))))) (now (list .entry)))) ⌝ }
+    ensures { λ r. ⌜ ((t : Task) → Costed t count (now (path .entry)) (now (cost .entry)) → (r ≡ costs t (pathSteps count (now (path .entry)))) × (now (list .exit) ≡ over (listed rowPlace (rows t (pathSteps count (now (path .entry))))) (now (list .entry)))) ⌝ }
 {
     let mut left: u32 = 0;
     let mut i = count;
@@ -33,4 +77,49 @@ fn fill_rows(
         left += paid;
     }
     left
+}
+
+// What a run that has ended answers, with the rows of its plan put into the list.
+fn tell(
+    ended: Ended,
+    path: &[u8; Model::BLOCKS],
+    cost: &[u16; Model::STEPS],
+    list: &mut [u32],
+) -> Answer
+    requires { ⌜ KnownEnd (limits .steps) ended (now path) × StepsFit ended (length (now list)) ⌝ }
+    ensures { λ r. ⌜ ((t : Task) → PathCosts t ended (now (path .entry)) (now (cost .entry)) → (r ≡ told t (blocksTold ended) (answerOf ended (now (path .entry)))) × (now (list .exit) ≡ over (listed rowPlace (rowsOf t (answerOf ended (now (path .entry))))) (now (list .entry)))) ⌝ }
+{
+    match ended {
+        Ended::Plan(steps, blocks) => {
+            let cost = fill_rows(steps, path, cost, list);
+            Answer::Plan {
+                cost,
+                steps,
+                blocks,
+            }
+        }
+        Ended::NoPlan(blocks) => Answer::NoPlan { blocks },
+        Ended::Open(estimate, blocks) => Answer::Open { estimate, blocks },
+    }
+}
+
+// Judges a model sheet, the room and the lists, makes the run, and fills the lists with its cuts and the rows of its plan.
+pub fn run(sheet: &[u8], room: u32, cuts: &mut [u32], rows: &mut [u32]) -> Answer
+    ensures { λ r. ⌜ outcome r (now (cuts .exit)) (now (rows .exit)) ≡ running (now (sheet .entry)) room (now (cuts .entry)) (now (rows .entry)) ⌝ }
+{
+    let read = unpack_model(sheet);
+    let code = read.code;
+    if code != 0 {
+        return Answer::Refused(code);
+    }
+    let r = judge_room(room, cuts, rows);
+    if r != 0 {
+        return Answer::Refused(r);
+    }
+    let model = read.model;
+    let spare = room as usize - 1;
+    let mut path = [0u8; Model::BLOCKS];
+    let ended = refine(model, spare, cuts, &mut path);
+    let cost = model.cost;
+    tell(ended, &path, &cost, rows)
 }

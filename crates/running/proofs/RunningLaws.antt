@@ -1,0 +1,177 @@
+-- Laws for the code of a run as a caller has it: each refusal is the one that the definition gives, and what is left is the run.
+use Prim.Native.Nat.{ℕ, _-_, _*_, _≤_, _<_}
+use native.Mathlib.Omega.{arith}
+use mathlib.Core.Path.{_≡_, sym, ap, ap₂, _∙_}
+use mathlib.Core.List.{List, []}
+use lib.Dec.{ltb}
+use lib.ListN.{length, getD}
+use borrow.Author.Tests.{lt-ltb, le-ltb, ltb-false, eq-eqb, ne-eqb}
+use Rattle.task.specs.declared.Model.{Model}
+use Rattle.task.specs.declared.Step.{Step}
+use Rattle.task.specs.Loops.{over}
+use Rattle.task.specs.Sizes.{limits}
+use Rattle.task.specs.Tables.{taskOf}
+use Rattle.task.specs.Task.{Task, Accepted, step, costs}
+use Rattle.task.proofs.LoopLaws.{tab-length}
+use Rattle.task.proofs.TableLaws.{cost-of, steps-of}
+use Rattle.fields.specs.Judging.{outside, refusal}
+use Rattle.fields.proofs.JudgingLaws.{stop, go, applies, passes, passed, no-checks, refusal-append, below-low, above-high, inside, inside-means}
+use Rattle.sheets.specs.ModelSheet.{ofSheet, sheetChecks, judgeSheet}
+use Rattle.sheets.specs.Holding.{taskIn}
+use Rattle.unpack.specs.declared.Read.{Read}
+use Rattle.unpack.specs.Unpacking.{unpacked}
+use Rattle.sheet_laws.proofs.Held.{read-task, read-accepted}
+use Rattle.sheet_laws.proofs.Refusals.{code-judged}
+use Rattle.run.specs.Run as run
+use Rattle.run.specs.Run.{plan, refine, rows, rowsOf}
+use Rattle.run.proofs.LengthLaws.{plan-short}
+use Rattle.walk.specs.Walking.{stepIn}
+use Rattle.refining.specs.declared.Ended.{Ended}
+use Rattle.refining.specs.declared.Ended.the-variants as ended
+use Rattle.refining.specs.Listing.{listed, rowPlace, pathSteps}
+use Rattle.refining.specs.Refining.{answerOf, blocksTold, KnownEnd, StepsFit, RunEnds}
+use Rattle.running.specs.declared.Answer.{Answer}
+use Rattle.running.specs.declared.Answer.the-variants.{Plan, NoPlan, Open, Refused}
+use Rattle.running.specs.Running.{PathCosts, roomChecks, runChecks, told, outcome, running}
+use Rattle.running.specs.Running as specs
+
+-- ---- the room and the lists
+module _ (room : ℕ) (cuts rows : List ℕ) where
+  pub no-room : room < 1 → 7 ≡ refusal (roomChecks room cuts rows)
+  unfolding roomChecks
+  no-room h = applies 7 (outside 1 256 room) _ (below-low 1 256 room h) (λ z. omega arith)
+
+  module _ (some : 1 ≤ room) where
+    pub large-room : 256 < room → 7 ≡ refusal (roomChecks room cuts rows)
+    unfolding roomChecks
+    large-room h = applies 7 (outside 1 256 room) _ (above-high 1 256 room some h) (λ z. omega arith)
+
+    module _ (few : room ≤ 256) where
+      pub few-cuts : length cuts < (room - 1) * 3 → 8 ≡ refusal (roomChecks room cuts rows)
+      unfolding roomChecks
+      few-cuts h = passes 7 (outside 1 256 room) _ (inside 1 256 room some few) (applies 8 (ltb (length cuts) ((room - 1) * 3)) _ (lt-ltb (length cuts) ((room - 1) * 3) h) (λ z. omega arith))
+
+      module _ (c : (room - 1) * 3 ≤ length cuts) where
+        pub few-rows : length rows < (room - 1) * 3 → 8 ≡ refusal (roomChecks room cuts rows)
+        unfolding roomChecks
+        few-rows h =
+            passes 7 (outside 1 256 room) _ (inside 1 256 room some few)
+            (passes 8 (ltb (length cuts) ((room - 1) * 3)) _ (le-ltb (length cuts) ((room - 1) * 3) c)
+            (applies 8 (ltb (length rows) ((room - 1) * 3)) [] (lt-ltb (length rows) ((room - 1) * 3) h) (λ z. omega arith)))
+
+        pub enough : (room - 1) * 3 ≤ length rows → 0 ≡ refusal (roomChecks room cuts rows)
+        unfolding roomChecks
+        enough h =
+            passes 7 (outside 1 256 room) _ (inside 1 256 room some few)
+            (passes 8 (ltb (length cuts) ((room - 1) * 3)) _ (le-ltb (length cuts) ((room - 1) * 3) c)
+            (passes 8 (ltb (length rows) ((room - 1) * 3)) [] (le-ltb (length rows) ((room - 1) * 3) h) no-checks))
+
+  -- what an accepted room leaves
+  pub record Fits : Type 0 where
+    pub some : 1 ≤ room
+    pub few : room ≤ 256
+    pub cuts-fit : (room - 1) * 3 ≤ length cuts
+    pub rows-fit : (room - 1) * 3 ≤ length rows
+
+  pub room-fits : refusal (roomChecks room cuts rows) ≡ 0 → Fits
+  unfolding roomChecks
+  room-fits z =
+      let a = passed 7 (outside 1 256 room) _ (λ q. omega arith) z in
+      let b = passed 8 (ltb (length cuts) ((room - 1) * 3)) _ (λ q. omega arith) (a .1) in
+      let c = passed 8 (ltb (length rows) ((room - 1) * 3)) [] (λ q. omega arith) (b .1) in
+      let i = inside-means 1 256 room (a .0) in
+      record {
+        some = i .0;
+        few = i .1;
+        cuts-fit = ltb-false (length cuts) ((room - 1) * 3) (b .0);
+        rows-fit = ltb-false (length rows) ((room - 1) * 3) (c .0);
+      }
+
+-- ---- a run's end
+known-more : (n m : ℕ) → n ≤ m → (r : Ended) (path : List ℕ) → KnownEnd n r path → KnownEnd m r path
+unfolding KnownEnd
+known-more n m h (ended.Plan k b) path p = (p .0, λ i l. let q = p .1 i l in omega arith)
+known-more n m h (ended.NoPlan b) path p = p
+known-more n m h (ended.Open e b) path p = p
+
+-- a plan has a place for each step
+steps-fit : (t : Task) (room long : ℕ) (path : List ℕ) (o : Ended) → answerOf o path ≡ refine t (room - 1) [] .answer → ((ss : List Step) → refine t (room - 1) [] .answer ≡ plan ss → length ss < room)
+    → (room - 1) * 3 ≤ long → StepsFit o long
+unfolding StepsFit answerOf pathSteps
+steps-fit t room long path (ended.Plan n b) h short r = let p = short (pathSteps n path) (sym h) in omega (arith, p, tab-length n (stepIn path), r)
+steps-fit t room long path (ended.NoPlan b) h short r = tt
+steps-fit t room long path (ended.Open e b) h short r = tt
+
+costed : (m : Model) (path : List ℕ) (o : Ended) → KnownEnd (m .steps) o path → PathCosts (taskOf m) o path (m .cost)
+unfolding PathCosts stepIn KnownEnd
+costed m path (ended.Plan n b) p = λ i h. cost-of m (step (getD path i 0)) (p .1 i h)
+costed m path (ended.NoPlan b) p = tt
+costed m path (ended.Open e b) p = tt
+
+-- the answer of a plan whose rows were put
+pub plan-told : (t : Task) (n blocks : ℕ) (path list₀ : List ℕ) {c : ℕ} {list : List ℕ} → (c ≡ costs t (pathSteps n path)) × (list ≡ over (listed rowPlace (rows t (pathSteps n path))) list₀)
+    → (Plan c n blocks ≡ told t blocks (plan (pathSteps n path))) × (list ≡ over (listed rowPlace (rowsOf t (plan (pathSteps n path)))) list₀)
+unfolding told rowsOf pathSteps
+plan-told t n blocks path list₀ r = (rw (tab-length n (stepIn path)) (ap (λ (k : ℕ). Plan k n blocks) (r .0)), r .1)
+
+module _ (s : List ℕ) (room : ℕ) (cuts rows : List ℕ) where
+  refusing : {r : ℕ} → r ≡ refusal (runChecks s room cuts rows) → (r ≡ 0 → ⊥) → outcome (Refused r) cuts rows ≡ running s room cuts rows
+  unfolding running
+  refusing e z = simp (ne-eqb (refusal (runChecks s room cuts rows)) 0 (λ q. z (e ∙ q))) (ap (λ (k : ℕ). outcome (Refused k) cuts rows) e)
+
+  module _ {read : Read} (e : read ≡ unpacked s) where
+    code : read .code ≡ refusal (sheetChecks s)
+    unfolding judgeSheet
+    code = ap (λ (x : Read). x .code) e ∙ code-judged s
+
+    -- a refusal of the sheet
+    pub sheet-refused : (read .code ≡ 0 → ⊥) → outcome (Refused (read .code)) cuts rows ≡ running s room cuts rows
+    unfolding runChecks
+    sheet-refused z = refusing (code ∙ sym (refusal-append (sheetChecks s) _ ∙ stop (refusal (sheetChecks s)) _ (λ q. z (code ∙ q)))) z
+
+    module _ (z : read .code ≡ 0) where
+      ok : judgeSheet s ≡ 0
+      unfolding judgeSheet
+      ok = sym code ∙ z
+
+      task : taskOf (read .model) ≡ taskIn (ofSheet s)
+      task = ap (λ (x : Read). taskOf (x .model)) e ∙ read-task s ok
+
+      pub given : Accepted (taskOf (read .model))
+      given = rw e (read-accepted s ok)
+
+      after : {x : ℕ} → x ≡ refusal (roomChecks room cuts rows) → x ≡ refusal (runChecks s room cuts rows)
+      unfolding runChecks
+      after h = h ∙ sym (refusal-append (sheetChecks s) _ ∙ go (refusal (sheetChecks s)) _ (sym code ∙ z))
+
+      module _ {r : ℕ} (j : r ≡ refusal (roomChecks room cuts rows)) where
+        -- a refusal of the room or of the lists
+        pub room-refused : (r ≡ 0 → ⊥) → outcome (Refused r) cuts rows ≡ running s room cuts rows
+        room-refused n = refusing (after j) n
+
+        module _ (k : r ≡ 0) where
+          pub fits : Fits room cuts rows
+          fits = room-fits room cuts rows (sym j ∙ k)
+
+          abbrev t : Task
+          t = taskOf (read .model)
+
+          module _ {o : Ended} {cuts′ path : List ℕ} (w : RunEnds (refine t (room - 1) []) o (read .model .steps) cuts cuts′ path) where
+            pub known : KnownEnd (limits .steps) o path
+            known = known-more (read .model .steps) (limits .steps) (omega (arith, given .steps, steps-of (read .model))) o path (w .known)
+
+            pub room-for-steps : StepsFit o (length rows)
+            room-for-steps = steps-fit t room (length rows) path o (w .answer) (λ ss q. plan-short t given room (fits .some) ss (unfold run.run in q)) (fits .rows-fit)
+
+            pub path-costs : PathCosts t o path (read .model .cost)
+            path-costs = costed (read .model) path o (w .known)
+
+            -- the run is made
+            pub ran : {a : Answer} {rows′ : List ℕ} → (a ≡ told t (blocksTold o) (answerOf o path)) × (rows′ ≡ over (listed rowPlace (rowsOf t (answerOf o path))) rows)
+                → outcome a cuts′ rows′ ≡ running s room cuts rows
+            unfolding running specs.made run.run
+            ran {a} {rows′} p =
+                let q : 0 ≡ refusal (runChecks s room cuts rows) = after (sym (sym j ∙ k)) in
+                let x : a ≡ told t (run.blocksIn (refine t (room - 1) [])) (refine t (room - 1) [] .answer) = p .0 ∙ ap₂ (told t) (w .blocks) (w .answer) in
+                let y : rows′ ≡ over (listed rowPlace (rowsOf t (refine t (room - 1) [] .answer))) rows = p .1 ∙ ap (λ (b : run.Answer). over (listed rowPlace (rowsOf t b)) rows) (w .answer) in
+                simp (eq-eqb (refusal (runChecks s room cuts rows)) 0 (sym q)) (rw (x, y, w .list) (ap (λ (u : Task). specs.made u (refine u (room - 1) []) cuts rows) task))

@@ -1,0 +1,83 @@
+use native.Mathlib.Omega.{arith}
+use Rattle.running.proofs.RunningLaws.{sheet-refused, given, room-refused, fits, known, room-for-steps, path-costs, ran}
+use borrow.Author.Needs.{needs}
+use Rattle.running.proofs.run.Statement.{statement}
+use Rattle.running.proofs.run.Tie as tie
+use Rattle.running.proofs.run.Reads as reads
+use Rattle.running.proofs.run.Lts as lts
+use Rattle.refining.proofs.refine.Reads as refine-reads
+use Rattle.running.proofs.judge_room.Reads as judge-room-reads
+use Rattle.running.proofs.tell.Reads as tell-reads
+use Rattle.unpack.proofs.unpack_model.Reads as unpack-model-reads
+
+unpack-model-requires : tie.Need-unpack-model-requires
+unpack-model-requires c κs = search needs
+
+returns : tie.Need-returns
+returns c = let g = c .before .before .before .before .before .args in
+    sheet-refused (g .sheet .now) (g .room) (g .cuts .now) (g .rows .now) (c .before .unpack-model .ensures) (c .if1 .taken)
+
+judge-room-requires : tie.Need-judge-room-requires
+judge-room-requires c κs = search needs
+
+same-length : tie.Need-same-length
+same-length c = search needs
+
+same-length-2 : tie.Need-same-length-2
+same-length-2 c = search needs
+
+returns-2 : tie.Need-returns-2
+returns-2 c = let g = c .before .before .before .before .before .before .before .before .before .args in
+    room-refused (g .sheet .now) (g .room) (g .cuts .now) (g .rows .now) (c .before .before .before .before .before .unpack-model .ensures) (c .before .before .before .before .if1 .left) (c .before .judge-room .ensures) (c .if2 .taken)
+
+sub-spare : tie.Need-sub-spare
+sub-spare c = let g = c .before .before .before .before .before .before .before .before .before .before .args in
+    let f = fits (g .sheet .now) (g .room) (g .cuts .now) (g .rows .now) (c .before .before .before .before .before .before .unpack-model .ensures) (c .before .before .before .before .before .if1 .left) (c .before .before .judge-room .ensures) (c .before .if2 .left) in
+    let h = f .some in
+    search (needs, h)
+
+refine-requires : tie.Need-refine-requires
+refine-requires c κs = let g = c .before .before .before .before .before .before .before .before .before .before .before .before .args in
+    let f = fits (g .sheet .now) (g .room) (g .cuts .now) (g .rows .now) (c .before .before .before .before .before .before .before .before .unpack-model .ensures) (c .before .before .before .before .before .before .before .if1 .left) (c .before .before .before .before .judge-room .ensures) (c .before .before .before .if2 .left) in
+    (given (g .sheet .now) (g .room) (g .cuts .now) (g .rows .now) (c .before .before .before .before .before .before .before .before .unpack-model .ensures) (c .before .before .before .before .before .before .before .if1 .left), omega (arith, f .few, f .some), f .cuts-fit, search needs)
+
+tell-requires : tie.Need-tell-requires
+tell-requires c κs = let g = c .before .before .before .before .before .before .before .before .before .before .before .before .before .before .before .before .before .before .before .args in
+    let e = c .before .before .before .before .before .before .before .before .before .before .before .before .before .before .before .unpack-model .ensures in
+    let z = c .before .before .before .before .before .before .before .before .before .before .before .before .before .before .if1 .left in
+    let j = c .before .before .before .before .before .before .before .before .before .before .before .judge-room .ensures in
+    let k = c .before .before .before .before .before .before .before .before .before .before .if2 .left in
+    let w = c .before .before .before .before .before .before .refine .ensures .0 in
+    (known (g .sheet .now) (g .room) (g .cuts .now) (g .rows .now) e z j k w, room-for-steps (g .sheet .now) (g .room) (g .cuts .now) (g .rows .now) e z j k w)
+
+same-length-3 : tie.Need-same-length-3
+same-length-3 c = search needs
+
+same-length-4 : tie.Need-same-length-4
+same-length-4 c = search needs
+
+returns-3 : tie.Need-returns-3
+returns-3 c = let g = c .before .before .before .before .before .before .before .before .before .before .before .before .before .before .before .before .before .before .before .before .before .before .args in
+    let e = c .before .before .before .before .before .before .before .before .before .before .before .before .before .before .before .before .before .before .unpack-model .ensures in
+    let z = c .before .before .before .before .before .before .before .before .before .before .before .before .before .before .before .before .before .if1 .left in
+    let j = c .before .before .before .before .before .before .before .before .before .before .before .before .before .before .judge-room .ensures in
+    let k = c .before .before .before .before .before .before .before .before .before .before .before .before .before .if2 .left in
+    let w = c .before .before .before .before .before .before .before .before .before .refine .ensures .0 in
+    ran (g .sheet .now) (g .room) (g .cuts .now) (g .rows .now) e z j k w (c .before .before .tell .ensures _ (path-costs (g .sheet .now) (g .room) (g .cuts .now) (g .rows .now) e z j k w))
+
+pub run-spec : {M : Type 1} → statement M
+run-spec =
+    tie.close
+    (tie.spec
+    unpack-model-requires
+    returns
+    judge-room-requires
+    same-length
+    same-length-2
+    returns-2
+    sub-spare
+    refine-requires
+    tell-requires
+    same-length-3
+    same-length-4
+    returns-3)

@@ -1,0 +1,72 @@
+-- 01, "A run" and "Refusal numbers": a sheet and a room are judged, the run is made, and its cuts and rows are put into lent lists.
+use Prim.Native.Nat.{ℕ, _-_, _*_, _<_}
+use mathlib.Core.Path.{_≡_}
+use mathlib.Core.List.{List, [], _∷_, _++_}
+use lib.Dec.{eqb}
+use lib.ListN.{length, getD}
+use Rattle.task.specs.Loops.{over}
+use Rattle.task.specs.Sizes.{limits}
+use Rattle.task.specs.Task.{Task, costOf, costs}
+use Rattle.fields.specs.Judging.{Check, check, outside, pick, refusal}
+use Rattle.sheets.specs.ModelSheet.{ofSheet, sheetChecks}
+use Rattle.sheets.specs.Holding.{taskIn}
+use Rattle.sheets.specs.LentTables.{tooFew}
+use Rattle.run.specs.Run as run
+use Rattle.run.specs.Run.{plan, noPlan, «open», blocksIn, rowsOf}
+use Rattle.refining.specs.Listing.{listed, cutPlace, rowPlace}
+use Rattle.refining.specs.declared.Ended.{Ended}
+use Rattle.refining.specs.declared.Ended.the-variants as ended
+use Rattle.walk.specs.Walking.{stepIn}
+use Rattle.running.specs.declared.Answer.{Answer}
+use Rattle.running.specs.declared.Answer.the-variants.{Plan, NoPlan, Open, Refused}
+
+-- 7, and then 8: cuts and rows each need room less 1 places
+unfoldable pub roomChecks : ℕ → List ℕ → List ℕ → List Check
+roomChecks room cuts rows = check 7 (outside 1 (limits .blocks) room) ∷ tooFew ((room - 1) * 3) cuts ∷ tooFew ((room - 1) * 3) rows ∷ []
+
+-- a run judges the sheet, then 7, then 8
+unfoldable pub runChecks : List ℕ → ℕ → List ℕ → List ℕ → List Check
+runChecks s room cuts rows = sheetChecks s ++ roomChecks room cuts rows
+
+-- an answer in 01's values: a plan has its cost and its number of steps, "open" the start's estimate, and each the number of blocks
+unfoldable pub told : Task → ℕ → run.Answer → Answer
+told t blocks (plan ss) = Plan (costs t ss) (length ss) blocks
+told t blocks noPlan = NoPlan blocks
+told t blocks («open» e) = Open e blocks
+
+-- an answer's refusal number; 0 for none
+unfoldable pub number : Answer → ℕ
+number (Plan c n b) = 0
+number (NoPlan b) = 0
+number (Open e b) = 0
+number (Refused n) = n
+
+pub record Outcome : Type 0 where
+  pub answer : Answer
+  pub cuts : List ℕ
+  pub rows : List ℕ
+
+abbrev pub outcome : Answer → List ℕ → List ℕ → Outcome
+outcome a cuts rows = record { answer = a; cuts = cuts; rows = rows }
+
+-- a run that is made: its cuts, and for a plan its rows; places past the last one used stay untouched
+unfoldable pub made : Task → run.Outcome → List ℕ → List ℕ → Outcome
+made t o cuts rows = outcome (told t (blocksIn o) (o .answer)) (over (listed cutPlace (o .made)) cuts) (over (listed rowPlace (rowsOf t (o .answer))) rows)
+
+-- a refusal returns only its number and changes nothing lent
+unfoldable pub running : List ℕ → ℕ → List ℕ → List ℕ → Outcome
+running s room cuts rows =
+    let n = refusal (runChecks s room cuts rows) in
+    pick (eqb n 0) (made (taskIn (ofSheet s)) (run.run (taskIn (ofSheet s)) room) cuts rows) (outcome (Refused n) cuts rows)
+
+-- ---- what code knows of a path
+
+-- its first n steps cost what a table says
+abbrev pub Costed : Task → ℕ → List ℕ → List ℕ → Type 0
+Costed t n path cost = (i : ℕ) → i < n → costOf t (stepIn path i) ≡ getD cost (getD path i 0) 0
+
+-- and so do the steps of a plan
+unfoldable pub PathCosts : Task → Ended → List ℕ → List ℕ → Type 0
+PathCosts t (ended.Plan n b) path cost = Costed t n path cost
+PathCosts t (ended.NoPlan b) path cost = Unit {0}
+PathCosts t (ended.Open e b) path cost = Unit {0}
