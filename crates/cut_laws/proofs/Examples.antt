@@ -12,15 +12,11 @@ use Rattle.fields.specs.Packing.{sheetOf}
 use Rattle.sheets.specs.ModelSheet as sheet
 use Rattle.sheets.specs.Holding.{columnSaid, changeSaid, stepSaid, taskIn}
 use Rattle.blocks.specs.Blocks as blocks
+use Rattle.sheet_laws.proofs.Examples.{rethread}
 use Rattle.cut_sheets.specs.CutPart as part
 use Rattle.cut_sheets.specs.CutPart.{cutEntries}
 use Rattle.cut_sheets.specs.CutSheet as cut
 use Rattle.cut_sheets.specs.CutSheet.{taskOn, ofCuts, cutSheetChecks, cutList}
-
-abbrev pub rethread : List ℕ
-rethread =
-    0x11 ∷ 0x02 ∷ 0x04 ∷ 0x00 ∷ 0x03 ∷ 0x00 ∷ 0x60 ∷ 0x02 ∷ 0x80 ∷ 0x84 ∷ 0x00 ∷ 0x00 ∷ 0x01 ∷ 0x41 ∷ 0x02 ∷ 0x00 ∷ 0x00 ∷ 0x03 ∷ 0xc0
-    ∷ 0x80 ∷ 0x08 ∷ 0x40 ∷ 0x06 ∷ 0x41 ∷ 0x00 ∷ 0x10 ∷ 0x60 ∷ []
 
 -- the four cuts: block, column, wanted set for each
 abbrev four : List ℕ

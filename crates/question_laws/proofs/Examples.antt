@@ -14,7 +14,8 @@ use Rattle.blocks.specs.Blocks as blocks
 use Rattle.distances.specs.Distances as distances
 use Rattle.cut_sheets.specs.CutPart as part
 use Rattle.cut_sheets.specs.CutSheet as cut
-use Rattle.cut_laws.proofs.Examples.{rethread, cutPart, noCuts}
+use Rattle.sheet_laws.proofs.Examples.{rethread}
+use Rattle.cut_laws.proofs.Examples.{cutPart, noCuts}
 use Rattle.asking.specs.declared.Asked.{Asked}
 use Rattle.asking.specs.declared.Asked.the-variants.{Estimates, Refused}
 use Rattle.asking.specs.Question as question

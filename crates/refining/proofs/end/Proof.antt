@@ -1,3 +1,4 @@
+use mathlib.Core.Path.{refl}
 use Rattle.refining.specs.Refining.{endBy}
 use borrow.Author.Needs.{needs}
 use Rattle.refining.proofs.end.Statement.{statement}
@@ -19,15 +20,15 @@ enum-known-seen-2 c = search needs
 
 returns : tie.Need-returns
 unfolding endBy
-returns c = rw (c .enum-told .given .1)
+returns c = rw (c .enum-told .given .1) refl
 
 returns-2 : tie.Need-returns-2
 unfolding endBy
-returns-2 c = rw (c .before .seen .given .1)
+returns-2 c = rw (c .before .seen .given .1) refl
 
 returns-3 : tie.Need-returns-3
 unfolding endBy
-returns-3 c = rw (c .before .seen2 .given .1)
+returns-3 c = rw (c .before .seen2 .given .1) refl
 
 pub end-spec : {M : Type 1} → statement M
 end-spec =

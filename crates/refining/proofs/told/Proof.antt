@@ -1,3 +1,4 @@
+use mathlib.Core.Path.{refl}
 use Rattle.refining.specs.Refining.{toldBy}
 use borrow.Author.Needs.{needs}
 use Rattle.refining.proofs.told.Statement.{statement}
@@ -16,11 +17,11 @@ cast-t7 c = search needs
 
 returns : tie.Need-returns
 unfolding toldBy
-returns c = rw (c .before .found .given .1)
+returns c = rw (c .before .found .given .1) refl
 
 returns-2 : tie.Need-returns-2
 unfolding toldBy
-returns-2 c = rw (c .before .found2 .given .1)
+returns-2 c = rw (c .before .found2 .given .1) refl
 
 pub told-spec : {M : Type 1} → statement M
 told-spec = tie.close (tie.spec enum-known-found enum-known-found-2 cast-t7 returns returns-2)

@@ -1,6 +1,6 @@
 use Rattle.running.proofs.RowLaws.{RowsFrom, rows-none, rows-more, rows-end}
-use Prim.Native.Nat.{_+_, _-_, _*_}
-use lib.ListN.{getD, set, length-set}
+use Prim.Native.Nat.{_-_}
+use lib.ListN.{length-set}
 use native.Mathlib.Omega.{arith}
 use borrow.Author.Needs.{needs}
 use Rattle.running.proofs.fill_rows.Statement.{statement}
@@ -59,8 +59,7 @@ mul-list-2 : tie.Need-mul-list-2 Inv-loop μ-loop
 mul-list-2 c = search needs
 
 slice-write-list-2 : tie.Need-slice-write-list-2 Inv-loop μ-loop
-slice-write-list-2 c = let s = length-set (c .before .before .before .before .loop .list) ((c .before .before .before .before .loop .i - 1) * 3) (getD (c .before .before .before .before .before .before .args .path .now) (c .before .before .before .before .loop .i - 1) 0) in
-    omega (arith, s, c .before .before .before .before .loop .inv .within, c .before .before .before .before .loop .inv .same, c .before .before .before .before .before .before .pre .1, c .before .before .before .loop-test .taken)
+slice-write-list-2 c = simp length-set (omega (arith, c .before .before .before .before .loop .inv .within, c .before .before .before .before .loop .inv .same, c .before .before .before .before .before .before .pre .1, c .before .before .before .loop-test .taken))
 
 add-list-2 : tie.Need-add-list-2 Inv-loop μ-loop
 add-list-2 c = search needs
@@ -69,9 +68,7 @@ mul-list-3 : tie.Need-mul-list-3 Inv-loop μ-loop
 mul-list-3 c = search needs
 
 slice-write-list-3 : tie.Need-slice-write-list-3 Inv-loop μ-loop
-slice-write-list-3 c = let s = length-set (c .before .before .before .before .loop .list) ((c .before .before .before .before .loop .i - 1) * 3) (getD (c .before .before .before .before .before .before .args .path .now) (c .before .before .before .before .loop .i - 1) 0) in
-    let u = length-set (set (c .before .before .before .before .loop .list) ((c .before .before .before .before .loop .i - 1) * 3) (getD (c .before .before .before .before .before .before .args .path .now) (c .before .before .before .before .loop .i - 1) 0)) ((c .before .before .before .before .loop .i - 1) * 3 + 1) (c .tenths .result) in
-    omega (arith, s, u, c .before .before .before .before .loop .inv .within, c .before .before .before .before .loop .inv .same, c .before .before .before .before .before .before .pre .1, c .before .before .before .loop-test .taken)
+slice-write-list-3 c = simp length-set (omega (arith, c .before .before .before .before .loop .inv .within, c .before .before .before .before .loop .inv .same, c .before .before .before .before .before .before .pre .1, c .before .before .before .loop-test .taken))
 
 add-left : tie.Need-add-left Inv-loop μ-loop
 add-left c = omega (arith, c .before .before .before .before .loop .inv .small, c .before .before .before .before .before .before .pre .0, c .tenths .ensures .1, c .before .before .before .loop-test .taken)

@@ -1,0 +1,137 @@
+-- 01, "A run": what a run that is not refused has answered, for whoever knows only its contract. A plan can be carried out, reaches the goal, and
+-- none is cheaper; "no plan" only where none exists; an open run has filled its room, and never has room for every state. Each listed cut is the
+-- one of the flaw met with the cuts before it, blocks are cuts plus one, and from cut to cut no state's estimate falls.
+use Prim.Native.Nat.{ℕ, _+_, _-_, _≤_, _<_}
+use native.Mathlib.Omega.{arith}
+use mathlib.Core.Path.{_≡_, refl, sym, ap, _∙_, subst}
+use mathlib.Core.Bool.{true}
+use mathlib.Core.List.{List, [], _∷_, _++_, append-assoc}
+use mathlib.Core.Option.{some}
+use lib.ListN.{length}
+use borrow.Author.Tests.{eq-eqb}
+use Rattle.task.specs.declared.Step.{Step}
+use Rattle.task.specs.Loops.{over}
+use Rattle.task.specs.Task.{Task, State, Accepted, stateCount, isState, start, costs}
+use Rattle.task.proofs.LoopLaws.{and-left, and-right, and-both}
+use Rattle.blocks.specs.declared.Cut.{Cut}
+use Rattle.blocks.specs.Blocks.{Blocks, whole, cutBlock, cutOk, cutsOk, accepted}
+use Rattle.blocks.proofs.FollowLaws.{accepted-less}
+use Rattle.distances.specs.Distances.{NoMore, estimate}
+use Rattle.distances.proofs.EstimateLaws.{estimates-never-fall}
+use Rattle.fields.specs.Judging.{refusal}
+use Rattle.fields.proofs.JudgingLaws.{neither, refusal-append}
+use Rattle.sheets.specs.ModelSheet.{ofSheet, sheetChecks, judgeSheet}
+use Rattle.sheets.specs.Holding.{taskIn}
+use Rattle.sheet_laws.proofs.Held.{accepted-task}
+use Rattle.run.specs.Run as run
+use Rattle.run.specs.Run.{plan, noPlan, «open», rows, rowsOf, blocksIn}
+use Rattle.run.proofs.RunLaws.{Cheapest, NoPlan as NonePlans, Ruled, Right, run-right}
+use Rattle.refining.specs.Listing.{listed, cutPlace, rowPlace}
+use Rattle.running.specs.declared.Answer.{Answer}
+use Rattle.running.specs.declared.Answer.the-variants.{Plan, NoPlan, Open, Refused}
+use Rattle.running.specs.Running.{roomChecks, runChecks, told, number, Outcome, outcome, made, running}
+use Rattle.running.proofs.RunningLaws.{room-fits}
+use Rattle.run_laws.proofs.Refusals.{run-number}
+
+-- a plan in the list: its steps, its cost, and that none is cheaper
+pub record Planned (t : Task) (cost count : ℕ) (list₀ list : List ℕ) : Type 0 where
+  pub steps : List Step
+  pub count-is : count ≡ length steps
+  pub cost-is : cost ≡ costs t steps
+  pub listed-rows : list ≡ over (listed rowPlace (rows t steps)) list₀
+  pub cheapest : Cheapest t steps
+
+module _ (t : Task) (room : ℕ) (cs : List Cut) (list₀ list : List ℕ) where
+  -- what an answer says, with the cuts that were made and the rows at entry and at exit
+  abbrev pub Says : Answer → Type 0
+  Says (Plan c n b) = (b ≡ length cs + 1) × Planned t c n list₀ list
+  Says (NoPlan b) = (b ≡ length cs + 1) × (list ≡ list₀) × NonePlans t
+  Says (Open e b) = (b ≡ length cs + 1) × (list ≡ list₀) × (b ≡ room) × (room < stateCount t) × (estimate t cs (start t) ≡ some e)
+  Says (Refused n) = ⊥
+
+  said : (r : run.Answer) → Right t room cs r → list ≡ over (listed rowPlace (rowsOf t r)) list₀ → Says (told t (length cs + 1) r)
+  unfolding told rowsOf
+  said (plan ss) h e = (refl, record { steps = ss; count-is = refl; cost-is = refl; listed-rows = e; cheapest = h })
+  said noPlan h e = (refl, (unfold over listed in e), h)
+  said («open» k) h e = (refl, (unfold over listed in e), omega (arith, h .0), h .1, h .2)
+
+-- an accepted list's front is accepted
+front : (t : Task) (a b : List Cut) (bs : Blocks) → cutsOk t bs (a ++ b) ≡ true → cutsOk t bs a ≡ true
+unfolding cutsOk
+front t [] b bs h = refl
+front t (c ∷ a) b bs h =
+    let r : cutsOk t (cutBlock bs c) (a ++ b) ≡ true = and-right (cutOk t bs c) (cutsOk t (cutBlock bs c) (a ++ b)) h in
+    and-both (and-left (cutOk t bs c) (cutsOk t (cutBlock bs c) (a ++ b)) h) (front t a b (cutBlock bs c) r)
+
+accepted-front : (t : Task) (a b : List Cut) → accepted t (a ++ b) ≡ true → accepted t a ≡ true
+unfolding accepted
+accepted-front t a b h = front t a b (whole t ∷ []) h
+
+module _ (s : List ℕ) (room : ℕ) (cuts rows₀ : List ℕ) where
+  abbrev t : Task
+  t = taskIn (ofSheet s)
+
+  -- a run that is not refused
+  pub record Ran (a : Answer) (cuts′ rows′ : List ℕ) : Type 0 where
+    pub model : Accepted t
+    pub some : 1 ≤ room
+    pub few : room ≤ 256
+    pub made : List Cut
+    pub listed-cuts : cuts′ ≡ over (listed cutPlace made) cuts
+    pub ok : accepted t made ≡ true
+    -- each flaw met before the room was full brought exactly one cut, by 01's rules
+    pub ruled : Ruled t made
+    pub within : length made + 1 ≤ room
+    pub says : Says t room made rows₀ rows′ a
+
+  module _ {a : Answer} {cuts′ rows′ : List ℕ} (done : outcome a cuts′ rows′ ≡ running s room cuts rows₀) (kind : number a ≡ 0) where
+    quiet : refusal (runChecks s room cuts rows₀) ≡ 0
+    quiet = sym (run-number s room cuts rows₀) ∙ ap (λ (o : Outcome). number (o .answer)) (sym done) ∙ kind
+
+    parts : (refusal (sheetChecks s) ≡ 0) × (refusal (roomChecks room cuts rows₀) ≡ 0)
+    unfolding runChecks
+    parts = neither (refusal (sheetChecks s)) _ (sym (refusal-append (sheetChecks s) _) ∙ quiet)
+
+    ok : judgeSheet s ≡ 0
+    unfolding judgeSheet
+    ok = parts .0
+
+    whole-run : outcome a cuts′ rows′ ≡ made t (run.run t room) cuts rows₀
+    unfolding running
+    whole-run = simp (eq-eqb (refusal (runChecks s room cuts rows₀)) 0 quiet) at done
+
+    pub run-says : Ran a cuts′ rows′
+    run-says =
+        let v : Accepted t = accepted-task s ok in
+        let f = room-fits room cuts rows₀ (parts .1) in
+        let r = run-right t v room (f .some) in
+        let o = run.run t room in
+        let e : a ≡ told t (length (o .made) + 1) (o .answer) = ap (λ (x : Outcome). x .answer) whole-run ∙ (unfold made run.blocksIn in refl) in
+        let l : rows′ ≡ over (listed rowPlace (rowsOf t (o .answer))) rows₀ = ap (λ (x : Outcome). x .rows) whole-run ∙ (unfold made in refl) in
+        record {
+          model = v;
+          some = f .some;
+          few = f .few;
+          made = o .made;
+          listed-cuts = ap (λ (x : Outcome). x .cuts) whole-run ∙ (unfold made in refl);
+          ok = r .made;
+          ruled = r .ruled;
+          within = omega (arith, r .fits);
+          says = rw e (said t room (o .made) rows₀ rows′ (o .answer) (r .right) l);
+        }
+
+  module _ {a : Answer} {cuts′ rows′ : List ℕ} (r : Ran a cuts′ rows′) where
+    -- with room for every state a run never ends open
+    pub never-open : stateCount t ≤ room → (e b : ℕ) → a ≡ Open e b → ⊥
+    never-open h e b q = let z = subst (Says t room (r .made) rows₀ rows′) q (r .says) in omega (arith, z .3)
+
+    -- an open run has filled its room
+    pub open-is-full : (e b : ℕ) → a ≡ Open e b → length (r .made) + 1 ≡ room
+    open-is-full e b q = let z = subst (Says t room (r .made) rows₀ rows′) q (r .says) in sym (z .0) ∙ z .2
+
+    -- from cut to cut no state's estimate falls, "no way" ranking above every number
+    pub never-falls : (before after : List Cut) (c : Cut) → r .made ≡ before ++ (c ∷ after) → (x : State) → isState t x ≡ true → NoMore (estimate t before x) (estimate t (before ++ (c ∷ [])) x)
+    never-falls before after c q x h =
+        let w : accepted t ((before ++ (c ∷ [])) ++ after) ≡ true = rw (append-assoc before (c ∷ []) after) (rw q at (r .ok)) in
+        let l = accepted-less t (r .model) before c (accepted-front t (before ++ (c ∷ [])) after w) in
+        estimates-never-fall t (r .model) before (l .0) c (l .1) x h

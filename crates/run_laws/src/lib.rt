@@ -1,0 +1,1 @@
+// What holds of a run as a whole: no function stands here.
