@@ -14,13 +14,15 @@ use Rattle.task.proofs.TableLaws.{columns-of, size-of}
 use Rattle.fields.specs.Judging.{check, pick, refusal}
 use Rattle.fields.proofs.JudgingLaws.{stop, go, applies, passes, no-checks, refusal-append}
 use Rattle.sheets.specs.LentTables.{tooFew}
+use Rattle.sheets.specs.Holding.{taskOn}
 use Rattle.unpack.specs.declared.Read.{Read}
 use Rattle.unpack.specs.Unpacking.{unpacked}
 use Rattle.cut_sheets.specs.CutPart.{cutsNamed, cutOn, countOf, judgeCuts}
-use Rattle.cut_sheets.specs.CutSheet.{taskOn, tailOf, cutSheetChecks, cutsOf}
+use Rattle.cut_sheets.specs.CutSheet.{tailOf, cutSheetChecks, cutsOf}
 use Rattle.cut_sheets.specs.Judged.{Made}
 use Rattle.cut_reading.specs.Rebuilding.{SheetJudged}
-use Rattle.cut_reading.proofs.RebuildLaws.{read-code, given-task, given-accepted, given-columns, sheets-ok, start-within}
+use Rattle.cut_reading.proofs.RebuildLaws.{sheets-ok, start-within}
+use Rattle.sheet_laws.proofs.Given.{read-code, given-task, given-accepted, given-columns}
 use Rattle.asking.specs.declared.Asked.the-variants.{Estimates, Refused}
 use Rattle.asking.specs.Question.{statesIn, badStates, estimatesOf, questionChecks, outcome, asking}
 

@@ -11,11 +11,11 @@ use Rattle.task.specs.Sizes.{limits}
 use Rattle.task.specs.Task.{Task, State, column, position, columnCount, sizeOf}
 use Rattle.fields.specs.Judging.{Check, check, pick, refusal}
 use Rattle.sheets.specs.LentTables.{tooFew}
-use Rattle.sheets.specs.Holding.{unused}
+use Rattle.sheets.specs.Holding.{unused, taskOn}
 use Rattle.blocks.specs.declared.Cut.{Cut}
 use Rattle.blocks.specs.Flat.{followed}
 use Rattle.distances.specs.Distances.{estimate}
-use Rattle.cut_sheets.specs.CutSheet.{taskOn, cutSheetChecks, cutsOf}
+use Rattle.cut_sheets.specs.CutSheet.{cutSheetChecks, cutsOf}
 use Rattle.asking.specs.declared.Asked.{Asked}
 use Rattle.asking.specs.declared.Asked.the-variants.{Estimates, Refused}
 

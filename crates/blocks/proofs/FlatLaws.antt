@@ -1,5 +1,5 @@
 -- Laws of the flat arrays: what is written where, the first block, a cut made, and the block of a state found by following the cuts.
-use mathlib.Core.Path.{_≡_, refl, sym, ap, _∙_}
+use mathlib.Core.Path.{_≡_, refl, sym, ap, _∙_, subst}
 use mathlib.Core.Logic.{_⊎_, inl, inr, ⊎-elim, _≢_}
 use mathlib.Core.Bool.{false}
 use mathlib.Core.List.{List, [], _∷_, _++_, append-nil}
@@ -120,6 +120,16 @@ first-made t sets =
   where
     long : length (whole t) ≡ columnCount t
     long = unfold whole in per-length t (λ j. every (sizeOf t j))
+
+-- the same of a model, whatever stood there before
+module _ (m : Model) (old : List ℕ) {sets : List ℕ} (e : sets ≡ over (whole (taskOf m)) old) where
+  pub first-stands : blocksIn (m .columns) 1 sets ≡ whole (taskOf m) ∷ []
+  first-stands =
+      ap (blocksIn (m .columns) 1) e
+      ∙ subst (λ (k : ℕ). blocksIn k 1 (over (whole (taskOf m)) old) ≡ whole (taskOf m) ∷ []) (columns-of m) (first-made (taskOf m) old)
+
+  pub first-fills : columnCount (taskOf m) ≤ 16 → length old ≡ 4096 → length sets ≡ 4096
+  first-fills v l = ap length e ∙ first-long (taskOf m) old (omega (arith, l, v)) ∙ l
 
 -- ---- a cut made in the array
 module _ (columns count : ℕ) (c : Cut) (sets : List ℕ) (wide : columns ≤ 16) (room : count < 256) (made : c .block .0 < count) (there : c .column .0 < columns) (long : length sets ≡ 4096) where

@@ -10,13 +10,13 @@ use Rattle.fields.specs.Judging as judging
 use Rattle.fields.specs.Packing as packing
 use Rattle.fields.specs.Packing.{sheetOf}
 use Rattle.sheets.specs.ModelSheet as sheet
-use Rattle.sheets.specs.Holding.{columnSaid, changeSaid, stepSaid, taskIn}
+use Rattle.sheets.specs.Holding.{columnSaid, changeSaid, stepSaid, taskIn, taskOn}
 use Rattle.blocks.specs.Blocks as blocks
 use Rattle.sheet_laws.proofs.Examples.{rethread}
 use Rattle.cut_sheets.specs.CutPart as part
 use Rattle.cut_sheets.specs.CutPart.{cutEntries}
 use Rattle.cut_sheets.specs.CutSheet as cut
-use Rattle.cut_sheets.specs.CutSheet.{taskOn, ofCuts, cutSheetChecks, cutList}
+use Rattle.cut_sheets.specs.CutSheet.{ofCuts, cutSheetChecks, cutList}
 
 -- the four cuts: block, column, wanted set for each
 abbrev four : List ℕ

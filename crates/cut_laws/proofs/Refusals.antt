@@ -13,9 +13,10 @@ use Rattle.task.specs.Loops.{over}
 use Rattle.fields.specs.Judging.{pick, checksOf, refusal}
 use Rattle.fields.proofs.ExactLaws.{FirstToApply, Numbered, numbered-append, numbered-checks, applies-first, first-refuses}
 use Rattle.sheets.specs.ModelSheet.{ofSheet, entries, sheetChecks}
+use Rattle.sheets.specs.Holding.{taskOn}
 use Rattle.sheet_laws.proofs.Refusals.{numbered-fields, numbered-sheet}
 use Rattle.cut_sheets.specs.CutPart.{cutEntries, cutBytes, countOf}
-use Rattle.cut_sheets.specs.CutSheet.{taskOn, tailOf, cutSheetChecks, cutList, rebuildChecks, ofCuts, cutSheetOf, givenChecks, writeCutsChecks}
+use Rattle.cut_sheets.specs.CutSheet.{tailOf, cutSheetChecks, cutList, rebuildChecks, ofCuts, cutSheetOf, givenChecks, writeCutsChecks}
 use Rattle.cut_sheets.proofs.CutRefusalLaws as part
 use Rattle.cut_reading.specs.declared.CutsRebuilt.the-variants.{Cuts, Refused}
 use Rattle.cut_reading.specs.Rebuilding.{outcome, number, rebuilding}

@@ -7,8 +7,9 @@ use mathlib.Core.List.{List, _++_}
 use lib.ListN.{take, drop, take-append-drop}
 use Rattle.fields.proofs.PutLaws.{Bytes}
 use Rattle.sheets.specs.ModelSheet.{modelBytes, columnsOf, stepsOf, judgePart, judgeSheet}
+use Rattle.sheets.specs.Holding.{taskOn}
 use Rattle.sheet_laws.proofs.SameModel.{same-bytes, same-held}
-use Rattle.cut_sheets.specs.CutSheet.{taskOn, atFront}
+use Rattle.cut_sheets.specs.CutSheet.{atFront}
 use Rattle.cut_sheets.proofs.CutSheetLaws.{front-take, front-append, inner-bytes}
 
 pub same-model : (model s : List ℕ) → judgeSheet model ≡ 0 → judgePart s ≡ 0 → Bytes model → Bytes s → (atFront model s ≡ true) ↔ (taskOn s ≡ taskOn model)

@@ -5,31 +5,27 @@ use mathlib.Core.Path.{_≡_, refl, sym, ap, ap₂, _∙_, subst}
 use mathlib.Core.Bool.{Bool, true, false, _&&_}
 use mathlib.Core.List.{List, [], _∷_}
 use lib.Dec.{eqb, leb, ltb}
-use lib.ListN.{length, getD, take, drop, length-append, length-drop}
+use lib.ListN.{length, getD, take, drop, length-drop}
 use lib.Seq.{take-all}
-use borrow.Author.Tests.{le-leb, lt-leb, lt-ltb, le-ltb, eqb-true, eq-eqb, ne-eqb}
+use borrow.Author.Tests.{le-leb, lt-leb, lt-ltb, le-ltb, eq-eqb, ne-eqb}
 use Rattle.task.specs.Loops.{all, tab, over}
-use Rattle.task.specs.Task.{Task, Accepted, columnCount, sizeOf}
+use Rattle.task.specs.Task.{Task, columnCount}
 use Rattle.task.specs.Tables.{taskOf}
 use Rattle.task.proofs.LoopLaws.{and-both, all-more, all-fails}
-use Rattle.task.proofs.TaskLaws.{per-length}
-use Rattle.task.proofs.TableLaws.{columns-of}
-use Rattle.fields.specs.Judging.{pick, refusal, each}
+use Rattle.fields.specs.Judging.{refusal, each}
 use Rattle.fields.specs.Places.{puts}
 use Rattle.fields.proofs.JudgingLaws.{stop, go, applies, passes, no-checks, refusal-append}
 use Rattle.fields.proofs.PlaceLaws.{each-length, puts-over}
 use Rattle.sheets.specs.LentTables.{tooFew}
-use Rattle.blocks.specs.Blocks.{every, whole, cutAll, blocksOf}
-use Rattle.blocks.specs.Flat.{blocksIn}
-use Rattle.blocks.proofs.FlatLaws.{first-made}
-use Rattle.sheets.specs.ModelSheet.{ofSheet, judgePart, judgeSheet}
-use Rattle.sheets.specs.Holding.{modelOf, noModel}
+use Rattle.blocks.specs.Blocks.{whole, cutAll, blocksOf}
+use Rattle.blocks.proofs.FlatLaws.{first-stands, first-fills}
+use Rattle.sheets.specs.ModelSheet.{judgePart, judgeSheet}
+use Rattle.sheets.specs.Holding.{taskOn}
 use Rattle.unpack.specs.declared.Read.{Read}
-use Rattle.unpack.specs.Unpacking.{answer, unpacked}
-use Rattle.sheet_laws.proofs.Held.{read-task, read-accepted}
-use Rattle.sheet_laws.proofs.Refusals.{code-judged}
+use Rattle.unpack.specs.Unpacking.{unpacked}
+use Rattle.sheet_laws.proofs.Given.{read-code, ok, given-task, given-accepted, given-columns}
 use Rattle.cut_sheets.specs.CutPart.{CutFields, cutsNamed, cutOn, countOf, judgeCuts}
-use Rattle.cut_sheets.specs.CutSheet.{taskOn, tailOf, atFront, cutSheetChecks, cutValues, cutList, rebuildChecks}
+use Rattle.cut_sheets.specs.CutSheet.{tailOf, atFront, cutSheetChecks, cutValues, cutList, rebuildChecks}
 use Rattle.cut_sheets.specs.Judged.{Made, PartJudged}
 use Rattle.cut_sheets.proofs.CutSheetLaws.{tail-is, front-refusal, model-refused, inner-refused, ten-refused, front-take, sheet-accepted, values-length}
 use Rattle.cut_reading.specs.declared.CutsRebuilt.the-variants.{Cuts, Refused}
@@ -70,39 +66,14 @@ rest-all s n = take-all (length s - n) (drop n s) (simp length-drop (omega arith
 
 -- ---- the given model
 module _ (m : List ℕ) {r : Read} (e : r ≡ unpacked m) where
-  pub read-code : r .code ≡ judgeSheet m
-  read-code = ap (λ (x : Read). x .code) e ∙ code-judged m
-
   module _ (z : r .code ≡ 0) where
-    pub ok : judgeSheet m ≡ 0
-    ok = sym read-code ∙ z
-
-    pub given-task : taskOf (r .model) ≡ taskOn m
-    unfolding taskOn
-    given-task = ap (λ (x : Read). taskOf (x .model)) e ∙ read-task m ok
-
-    pub given-accepted : Accepted (taskOf (r .model))
-    given-accepted = rw e (read-accepted m ok)
-
-    pub given-columns : columnCount (taskOn m) ≡ r .model .columns
-    given-columns = ap columnCount (sym given-task) ∙ columns-of (r .model)
-
-    pub few-columns : r .model .columns ≤ 16
-    few-columns = omega (arith, given-accepted .columns .1, columns-of (r .model))
-
     -- block 0 alone, in the array
     pub first-long : (sets : List ℕ) {next : List ℕ} → length sets ≡ 4096 → next ≡ over (whole (taskOf (r .model))) sets → length next ≡ 4096
-    unfolding over whole
-    first-long sets l n =
-        let k = per-length (taskOf (r .model)) (λ j. every (sizeOf (taskOf (r .model)) j)) in
-        ap length n ∙ length-append (whole (taskOf (r .model))) _ ∙ omega (arith, length-drop (length (whole (taskOf (r .model)))) sets, k, given-accepted .columns .1)
+    first-long sets l n = first-fills (r .model) sets n (given-accepted m e z .columns .1) l
 
     pub first-block : (f : ℕ → CutFields) (sets : List ℕ) {next : List ℕ} → next ≡ over (whole (taskOf (r .model))) sets → Made (taskOn m) f (r .model .columns) 0 next
     unfolding blocksOf cutAll cutsNamed tab
-    first-block f sets n =
-        ap (blocksIn (r .model .columns) 1) n
-        ∙ subst (λ (k : ℕ). blocksIn k 1 (over (whole (taskOf (r .model))) sets) ≡ whole (taskOf (r .model)) ∷ []) (columns-of (r .model)) (first-made (taskOf (r .model)) sets)
-        ∙ ap (λ (t : Task). whole t ∷ []) given-task
+    first-block f sets n = first-stands (r .model) sets n ∙ ap (λ (t : Task). whole t ∷ []) (given-task m e z)
 
 -- ---- the answers of judging both sheets
 module _ (m s : List ℕ) where

@@ -7,10 +7,11 @@ use Rattle.task.specs.Loops.{over}
 use Rattle.task.specs.Task.{columnCount}
 use Rattle.fields.specs.Judging.{pick, refusal}
 use Rattle.cut_sheets.specs.CutPart.{countOf, cutOn}
-use Rattle.cut_sheets.specs.CutSheet.{taskOn, tailOf, cutSheetChecks, cutList, rebuildChecks}
+use Rattle.cut_sheets.specs.CutSheet.{tailOf, cutSheetChecks, cutList, rebuildChecks}
 use Rattle.cut_sheets.specs.Judged.{Made}
 use Rattle.cut_reading.specs.declared.CutsRebuilt.{CutsRebuilt}
 use Rattle.cut_reading.specs.declared.CutsRebuilt.the-variants.{Cuts, Refused}
+use Rattle.sheets.specs.Holding.{taskOn}
 
 -- both sheets were judged; where neither was refused, the array holds the blocks of the cuts
 pub record SheetJudged (model s : List ℕ) (r : ℕ) (sets : List ℕ) : Type 0 where

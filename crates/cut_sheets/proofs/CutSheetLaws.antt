@@ -22,8 +22,9 @@ use Rattle.sheets.specs.ModelSheet.{columnsOf, stepsOf, modelBytes, fieldsPart,
 use Rattle.sheets.proofs.SheetLaws.{sheet-fine}
 use Rattle.sheets.proofs.HoldLaws.{Reads, holds-reads, sheet-bits, whole-bytes}
 use Rattle.sheets.proofs.RoundLaws.{Same, same-fields, reads-same, own-holds, own-fine, exact-length, same-field}
+use Rattle.sheets.specs.Holding.{taskOn}
 use Rattle.cut_sheets.specs.CutPart.{CutFields, cutsNamed, cutEntries, countOf, cutOn, ofCutPart, cutPartWith, cutChecks, judgeCuts}
-use Rattle.cut_sheets.specs.CutSheet.{taskOn, tailOf, atFront, cutSheetChecks, cutsOf, cutValues, cutList, cutLent, ofCuts, cutSheetOf}
+use Rattle.cut_sheets.specs.CutSheet.{tailOf, atFront, cutSheetChecks, cutsOf, cutValues, cutList, cutLent, ofCuts, cutSheetOf}
 use Rattle.cut_sheets.proofs.CutPartLaws as part
 use Rattle.cut_sheets.proofs.CutPartLaws.{SameCuts, PartFine}
 use Rattle.cut_sheets.proofs.CutRoundLaws as round

@@ -5,18 +5,13 @@ use mathlib.Core.List.{List, [], _∷_, _++_}
 use lib.ListN.{length, getD, drop}
 use lib.Dec.{eqb, leb}
 use Rattle.task.specs.Loops.{all}
-use Rattle.task.specs.Task.{Task}
 use Rattle.fields.specs.Judging.{Check, inTable, given, check, checksOf, each}
 use Rattle.fields.specs.Packing.{sheetOf}
 use Rattle.sheets.specs.ModelSheet.{columnsOf, stepsOf, modelBytes, ofSheet, entries, sheetChecks}
-use Rattle.sheets.specs.Holding.{taskIn}
+use Rattle.sheets.specs.Holding.{taskOn}
 use Rattle.sheets.specs.LentTables.{tooFew}
 use Rattle.blocks.specs.declared.Cut.{Cut}
 use Rattle.cut_sheets.specs.CutPart.{CutFields, CutSource, cutsNamed, cutEntries, countOf, cutOn, cutBytes, cutChecks}
-
--- the task of a model sheet
-unfoldable pub taskOn : List ℕ → Task
-taskOn s = taskIn (ofSheet s)
 
 -- the tail, starting after the inner model sheet
 unfoldable pub tailOf : List ℕ → List ℕ

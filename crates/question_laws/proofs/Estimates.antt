@@ -20,9 +20,10 @@ use Rattle.distances.proofs.EstimateLaws.{EstimateIs, estimate-is-distance, est
 use Rattle.fields.specs.Judging.{check, refusal}
 use Rattle.fields.proofs.JudgingLaws.{neither, passed, refusal-append}
 use Rattle.sheets.specs.LentTables.{tooFew}
+use Rattle.sheets.specs.Holding.{taskOn}
 use Rattle.sheet_laws.proofs.Held.{accepted-task, over-at}
 use Rattle.cut_sheets.specs.CutPart.{cutNamed, cutsNamed, cutOn, countOf}
-use Rattle.cut_sheets.specs.CutSheet.{taskOn, tailOf, cutSheetChecks, cutsOf}
+use Rattle.cut_sheets.specs.CutSheet.{tailOf, cutSheetChecks, cutsOf}
 use Rattle.cut_sheets.proofs.CutRoundLaws.{own-accepted}
 use Rattle.cut_sheets.proofs.CutSheetLaws.{sheet-accepted}
 use Rattle.cut_sheets.proofs.JudgeLaws.{count-below}

@@ -9,14 +9,13 @@ use Rattle.fields.specs.Bits as bits
 use Rattle.fields.specs.Judging as judging
 use Rattle.fields.specs.Packing as packing
 use Rattle.sheets.specs.ModelSheet as sheet
-use Rattle.sheets.specs.Holding.{columnSaid, changeSaid, stepSaid, taskIn}
+use Rattle.sheets.specs.Holding.{columnSaid, changeSaid, stepSaid, taskIn, taskOn}
 use Rattle.blocks.specs.Blocks as blocks
 use Rattle.distances.specs.Distances as distances
 use Rattle.cut_sheets.specs.CutPart as part
 use Rattle.cut_sheets.specs.CutSheet as cut
 use Rattle.sheet_laws.proofs.Examples.{rethread}
 use Rattle.cut_laws.proofs.Examples.{cutPart, noCuts}
-use Rattle.asking.specs.declared.Asked.{Asked}
 use Rattle.asking.specs.declared.Asked.the-variants.{Estimates, Refused}
 use Rattle.asking.specs.Question as question
 use Rattle.asking.specs.Question.{Outcome, outcome, asking}
@@ -58,7 +57,7 @@ pub answered-examples : map answer posed
     ∷ outcome (Refused 8) (7 ∷ [])
     ∷ []
 unfolding answer posed question.asking question.questionChecks question.badStates question.statesIn question.estimatesOf question.estimateAt question.stateIn question.placeIn
-    cut.cutSheetChecks cut.cutsOf cut.taskOn cut.tailOf cut.atFront part.cutEntries part.cutChecks part.cutFields part.cutHeader part.cutPart part.cutBits part.cutOn part.cutPartWith part.ofCutPart
+    cut.cutSheetChecks cut.cutsOf taskOn cut.tailOf cut.atFront part.cutEntries part.cutChecks part.cutFields part.cutHeader part.cutPart part.cutBits part.cutOn part.cutPartWith part.ofCutPart
     part.cutNamed part.cutsNamed
     sheet.sheetChecks sheet.entries sheet.fieldsPart sheet.headerPart sheet.columnPart sheet.marksPart sheet.stepPart sheet.fillPart sheet.modelBits sheet.columnOn sheet.costOn sheet.marksOn
     sheet.sheetWith sheet.ofSheet judging.outside judging.checksOf judging._then_ judging.refusal judging.judged judging.each packing.bytesFor bits.bitAt bits.fieldAt

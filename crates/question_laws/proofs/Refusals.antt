@@ -11,10 +11,11 @@ use borrow.Author.Tests.{ne-eqb, eqb-true}
 use Rattle.task.specs.Loops.{over}
 use Rattle.fields.specs.Judging.{pick, refusal}
 use Rattle.fields.proofs.ExactLaws.{FirstToApply, Numbered, numbered-append, applies-first, first-refuses}
-use Rattle.cut_sheets.specs.CutSheet.{taskOn, cutSheetChecks, cutsOf}
+use Rattle.cut_sheets.specs.CutSheet.{cutSheetChecks, cutsOf}
 use Rattle.cut_laws.proofs.Refusals.{numbered-sheets}
 use Rattle.asking.specs.declared.Asked.the-variants.{Estimates, Refused}
 use Rattle.asking.specs.Question.{statesIn, estimatesOf, questionChecks, outcome, number, asking}
+use Rattle.sheets.specs.Holding.{taskOn}
 
 module _ (model s states est : List ℕ) where
   numbered : Numbered (questionChecks model s states est)

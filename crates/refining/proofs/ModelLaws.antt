@@ -1,7 +1,7 @@
 -- The tables, the start and the first block of a model are those of its task.
 use Prim.Native.Nat.{ℕ, zero, suc, _≤_}
 use native.Mathlib.Omega.{arith}
-use mathlib.Core.Path.{_≡_, refl, sym, ap, _∙_, subst}
+use mathlib.Core.Path.{_≡_, refl, sym, ap, _∙_}
 use mathlib.Core.List.{List, [], _∷_, _++_}
 use lib.ListN.{length, getD, take}
 use lib.Seq.{take-suc}
@@ -12,9 +12,8 @@ use Rattle.task.specs.Task.{Accepted, column, position, startAt, perColumn, sta
 use Rattle.task.proofs.LoopLaws.{tab-ext}
 use Rattle.task.proofs.TableLaws.{columns-of, start-of}
 use Rattle.blocks.specs.Blocks.{whole, cutsOk, cutAll, accepted, blocksOf}
-use Rattle.blocks.specs.Flat.{blocksIn}
 use Rattle.blocks.specs.Masks.{needSets, landSets, goalSets}
-use Rattle.blocks.proofs.FlatLaws.{first-made, first-long}
+use Rattle.blocks.proofs.FlatLaws.{first-stands as blocks-stand}
 use Rattle.blocks.proofs.FollowLaws.{cuts-none}
 use Rattle.distances.proofs.JoinLaws.{model-tables}
 use Rattle.refining.specs.Refining.{Given, Made}
@@ -41,10 +40,5 @@ module _ (m : Model) (v : Accepted (taskOf m)) where
   first-stands cuts old e =
       record {
         ok = rw (cuts-none cuts) refl;
-        blocks =
-            rw (cuts-none cuts)
-            (ap (blocksIn (m .columns) 1) e ∙ subst (λ (k : ℕ). blocksIn k 1 (over (whole (taskOf m)) old) ≡ whole (taskOf m) ∷ []) (columns-of m) (first-made (taskOf m) old));
+        blocks = rw (cuts-none cuts) (blocks-stand m old e);
       }
-
-  pub first-fills : (old : List ℕ) {sets : List ℕ} → length old ≡ 4096 → sets ≡ over (whole (taskOf m)) old → length sets ≡ 4096
-  first-fills old l e = ap length e ∙ first-long (taskOf m) old (omega (arith, l, v .columns .1)) ∙ l

@@ -20,8 +20,8 @@ use Rattle.distances.specs.Distances.{NoMore, estimate}
 use Rattle.distances.proofs.EstimateLaws.{estimates-never-fall}
 use Rattle.fields.specs.Judging.{refusal}
 use Rattle.fields.proofs.JudgingLaws.{neither, refusal-append}
-use Rattle.sheets.specs.ModelSheet.{ofSheet, sheetChecks, judgeSheet}
-use Rattle.sheets.specs.Holding.{taskIn}
+use Rattle.sheets.specs.ModelSheet.{sheetChecks, judgeSheet}
+use Rattle.sheets.specs.Holding.{taskOn}
 use Rattle.sheet_laws.proofs.Held.{accepted-task}
 use Rattle.run.specs.Run as run
 use Rattle.run.specs.Run.{plan, noPlan, «open», rows, rowsOf, blocksIn}
@@ -69,7 +69,7 @@ accepted-front t a b h = front t a b (whole t ∷ []) h
 
 module _ (s : List ℕ) (room : ℕ) (cuts rows₀ : List ℕ) where
   abbrev t : Task
-  t = taskIn (ofSheet s)
+  t = taskOn s
 
   -- a run that is not refused
   pub record Ran (a : Answer) (cuts′ rows′ : List ℕ) : Type 0 where
@@ -102,7 +102,7 @@ module _ (s : List ℕ) (room : ℕ) (cuts rows₀ : List ℕ) where
 
     pub run-says : Ran a cuts′ rows′
     run-says =
-        let v : Accepted t = accepted-task s ok in
+        let v : Accepted t = unfold taskOn in accepted-task s ok in
         let f = room-fits room cuts rows₀ (parts .1) in
         let r = run-right t v room (f .some) in
         let o = run.run t room in

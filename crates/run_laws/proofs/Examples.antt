@@ -9,7 +9,7 @@ use Rattle.fields.specs.Bits as bits
 use Rattle.fields.specs.Judging as judging
 use Rattle.fields.specs.Packing as packing
 use Rattle.sheets.specs.ModelSheet as sheet
-use Rattle.sheets.specs.Holding.{columnSaid, changeSaid, stepSaid, taskIn}
+use Rattle.sheets.specs.Holding.{columnSaid, changeSaid, stepSaid, taskIn, taskOn}
 use Rattle.blocks.specs.Blocks as blocks
 use Rattle.distances.specs.Distances as distances
 use Rattle.run.specs.Run as run
@@ -81,7 +81,7 @@ pub answered-examples : map answer asked
 unfolding answer asked sevens running.running running.runChecks running.roomChecks running.made running.told listing.listed listing.cutPlace listing.rowPlace
     sheet.sheetChecks sheet.entries sheet.fieldsPart sheet.headerPart sheet.columnPart sheet.marksPart sheet.stepPart sheet.fillPart sheet.modelBits sheet.columnOn sheet.costOn sheet.marksOn
     sheet.sheetWith sheet.ofSheet judging.outside judging.checksOf judging._then_ judging.refusal judging.judged judging.each packing.bytesFor bits.bitAt bits.fieldAt
-    columnSaid changeSaid stepSaid taskIn marked loops.all loops.first loops.tab loops.over
+    columnSaid changeSaid stepSaid taskIn taskOn marked loops.all loops.first loops.tab loops.over
     task.columnCount task.stepCount task.sizeOf task.startAt task.goalAt task.costOf task.changeAt task.needAt task.effectAt task.eachColumn task.perColumn
     task.at task.meets task.changed task.start task.canTake task.taken task.isGoal task.costs
     blocks.holds blocks.only blocks.every blocks.common blocks.without blocks.isEmpty blocks.setAt blocks.blockAt blocks.leadsAt blocks.goalIn blocks.withSet

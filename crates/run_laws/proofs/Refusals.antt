@@ -11,8 +11,8 @@ use borrow.Author.Tests.{ne-eqb, eqb-true}
 use Rattle.task.specs.Task.{Task}
 use Rattle.fields.specs.Judging.{pick, refusal}
 use Rattle.fields.proofs.ExactLaws.{FirstToApply, Numbered, numbered-append, applies-first, first-refuses}
-use Rattle.sheets.specs.ModelSheet.{ofSheet, sheetChecks}
-use Rattle.sheets.specs.Holding.{taskIn}
+use Rattle.sheets.specs.ModelSheet.{sheetChecks}
+use Rattle.sheets.specs.Holding.{taskOn}
 use Rattle.sheet_laws.proofs.Refusals.{numbered-sheet}
 use Rattle.run.specs.Run as run
 use Rattle.run.specs.Run.{plan, noPlan, «open»}
@@ -35,7 +35,7 @@ module _ (s : List ℕ) (room : ℕ) (cuts rows : List ℕ) where
   R = refusal (runChecks s room cuts rows)
 
   abbrev t : Task
-  t = taskIn (ofSheet s)
+  t = taskOn s
 
   pub run-number : number (running s room cuts rows .answer) ≡ R
   unfolding running made

@@ -11,17 +11,15 @@ use Rattle.task.specs.declared.Step.{Step}
 use Rattle.task.specs.Loops.{over}
 use Rattle.task.specs.Sizes.{limits}
 use Rattle.task.specs.Tables.{taskOf}
-use Rattle.task.specs.Task.{Task, Accepted, step, costs}
+use Rattle.task.specs.Task.{Task, step, costs}
 use Rattle.task.proofs.LoopLaws.{tab-length}
 use Rattle.task.proofs.TableLaws.{cost-of, steps-of}
 use Rattle.fields.specs.Judging.{outside, refusal}
 use Rattle.fields.proofs.JudgingLaws.{stop, go, applies, passes, passed, no-checks, refusal-append, below-low, above-high, inside, inside-means}
-use Rattle.sheets.specs.ModelSheet.{ofSheet, sheetChecks, judgeSheet}
-use Rattle.sheets.specs.Holding.{taskIn}
+use Rattle.sheets.specs.ModelSheet.{sheetChecks, judgeSheet}
 use Rattle.unpack.specs.declared.Read.{Read}
 use Rattle.unpack.specs.Unpacking.{unpacked}
-use Rattle.sheet_laws.proofs.Held.{read-task, read-accepted}
-use Rattle.sheet_laws.proofs.Refusals.{code-judged}
+use Rattle.sheet_laws.proofs.Given.{read-code, given-task, given-accepted}
 use Rattle.run.specs.Run as run
 use Rattle.run.specs.Run.{plan, refine, rows, rowsOf}
 use Rattle.run.proofs.LengthLaws.{plan-short}
@@ -122,7 +120,7 @@ module _ (s : List ℕ) (room : ℕ) (cuts rows : List ℕ) where
   module _ {read : Read} (e : read ≡ unpacked s) where
     code : read .code ≡ refusal (sheetChecks s)
     unfolding judgeSheet
-    code = ap (λ (x : Read). x .code) e ∙ code-judged s
+    code = read-code s e
 
     -- a refusal of the sheet
     pub sheet-refused : (read .code ≡ 0 → ⊥) → outcome (Refused (read .code)) cuts rows ≡ running s room cuts rows
@@ -130,16 +128,6 @@ module _ (s : List ℕ) (room : ℕ) (cuts rows : List ℕ) where
     sheet-refused z = refusing (code ∙ sym (refusal-append (sheetChecks s) _ ∙ stop (refusal (sheetChecks s)) _ (λ q. z (code ∙ q)))) z
 
     module _ (z : read .code ≡ 0) where
-      ok : judgeSheet s ≡ 0
-      unfolding judgeSheet
-      ok = sym code ∙ z
-
-      task : taskOf (read .model) ≡ taskIn (ofSheet s)
-      task = ap (λ (x : Read). taskOf (x .model)) e ∙ read-task s ok
-
-      pub given : Accepted (taskOf (read .model))
-      given = rw e (read-accepted s ok)
-
       after : {x : ℕ} → x ≡ refusal (roomChecks room cuts rows) → x ≡ refusal (runChecks s room cuts rows)
       unfolding runChecks
       after h = h ∙ sym (refusal-append (sheetChecks s) _ ∙ go (refusal (sheetChecks s)) _ (sym code ∙ z))
@@ -158,10 +146,10 @@ module _ (s : List ℕ) (room : ℕ) (cuts rows : List ℕ) where
 
           module _ {o : Ended} {cuts′ path : List ℕ} (w : RunEnds (refine t (room - 1) []) o (read .model .steps) cuts cuts′ path) where
             pub known : KnownEnd (limits .steps) o path
-            known = known-more (read .model .steps) (limits .steps) (omega (arith, given .steps, steps-of (read .model))) o path (w .known)
+            known = known-more (read .model .steps) (limits .steps) (omega (arith, given-accepted s e z .steps, steps-of (read .model))) o path (w .known)
 
             pub room-for-steps : StepsFit o (length rows)
-            room-for-steps = steps-fit t room (length rows) path o (w .answer) (λ ss q. plan-short t given room (fits .some) ss (unfold run.run in q)) (fits .rows-fit)
+            room-for-steps = steps-fit t room (length rows) path o (w .answer) (λ ss q. plan-short t (given-accepted s e z) room (fits .some) ss (unfold run.run in q)) (fits .rows-fit)
 
             pub path-costs : PathCosts t o path (read .model .cost)
             path-costs = costed (read .model) path o (w .known)
@@ -174,4 +162,4 @@ module _ (s : List ℕ) (room : ℕ) (cuts rows : List ℕ) where
                 let q : 0 ≡ refusal (runChecks s room cuts rows) = after (sym (sym j ∙ k)) in
                 let x : a ≡ told t (run.blocksIn (refine t (room - 1) [])) (refine t (room - 1) [] .answer) = p .0 ∙ ap₂ (told t) (w .blocks) (w .answer) in
                 let y : rows′ ≡ over (listed rowPlace (rowsOf t (refine t (room - 1) [] .answer))) rows = p .1 ∙ ap (λ (b : run.Answer). over (listed rowPlace (rowsOf t b)) rows) (w .answer) in
-                simp (eq-eqb (refusal (runChecks s room cuts rows)) 0 (sym q)) (rw (x, y, w .list) (ap (λ (u : Task). specs.made u (refine u (room - 1) []) cuts rows) task))
+                simp (eq-eqb (refusal (runChecks s room cuts rows)) 0 (sym q)) (rw (x, y, w .list) (ap (λ (u : Task). specs.made u (refine u (room - 1) []) cuts rows) (given-task s e z)))

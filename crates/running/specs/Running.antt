@@ -8,8 +8,8 @@ use Rattle.task.specs.Loops.{over}
 use Rattle.task.specs.Sizes.{limits}
 use Rattle.task.specs.Task.{Task, costOf, costs}
 use Rattle.fields.specs.Judging.{Check, check, outside, pick, refusal}
-use Rattle.sheets.specs.ModelSheet.{ofSheet, sheetChecks}
-use Rattle.sheets.specs.Holding.{taskIn}
+use Rattle.sheets.specs.ModelSheet.{sheetChecks}
+use Rattle.sheets.specs.Holding.{taskOn}
 use Rattle.sheets.specs.LentTables.{tooFew}
 use Rattle.run.specs.Run as run
 use Rattle.run.specs.Run.{plan, noPlan, «open», blocksIn, rowsOf}
@@ -57,7 +57,7 @@ made t o cuts rows = outcome (told t (blocksIn o) (o .answer)) (over (listed cut
 unfoldable pub running : List ℕ → ℕ → List ℕ → List ℕ → Outcome
 running s room cuts rows =
     let n = refusal (runChecks s room cuts rows) in
-    pick (eqb n 0) (made (taskIn (ofSheet s)) (run.run (taskIn (ofSheet s)) room) cuts rows) (outcome (Refused n) cuts rows)
+    pick (eqb n 0) (made (taskOn s) (run.run (taskOn s) room) cuts rows) (outcome (Refused n) cuts rows)
 
 -- ---- what code knows of a path
 

@@ -5,3 +5,4 @@ pub mod Largest
 pub mod Examples
 pub mod Refusals
 pub mod SameModel
+pub mod Given

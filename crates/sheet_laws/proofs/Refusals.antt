@@ -21,7 +21,7 @@ use Rattle.unpack.specs.Unpacking.{answer, unpacked}
 use Rattle.reading.specs.declared.ModelRead.the-variants.{Held, Refused}
 use Rattle.reading.specs.Reading.{outcome, number, reading}
 use Rattle.writing.specs.declared.write.SheetWritten.the-variants.{Sheet, Refused as NotWritten}
-use Rattle.writing.specs.Writing.{Outcome as WriteOutcome, outcome as written, number as writeNumber, writing}
+use Rattle.writing.specs.Writing.{outcome as written, number as writeNumber, writing}
 
 -- every field has its number
 pub numbered-fields : (p : Source) → NumberedFields (entries p)

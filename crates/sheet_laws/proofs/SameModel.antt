@@ -1,9 +1,9 @@
 -- Whether the sheet at the front of longer bytes holds the same task as a given sheet is told by comparing bytes. (Refusal 10 asks it.)
-use Prim.Native.Nat.{ℕ, _+_, _*_, _≤_}
+use Prim.Native.Nat.{ℕ}
 use native.Mathlib.Omega.{arith}
 use mathlib.Core.Path.{_≡_, sym, ap, _∙_}
 use mathlib.Core.List.{List}
-use lib.ListN.{length, take}
+use lib.ListN.{take}
 use lib.Seq.{length-take-le}
 use Rattle.fields.proofs.PartLaws.{field-take}
 use Rattle.fields.proofs.PutLaws.{Bytes}

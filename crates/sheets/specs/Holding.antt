@@ -10,7 +10,7 @@ use Rattle.task.specs.Sizes.{limits}
 use Rattle.task.specs.Task.{Task, ColumnEntry, Change, StepEntry, position}
 use Rattle.task.specs.Tables.{mark, marked}
 use Rattle.fields.specs.Judging.{Field, pick}
-use Rattle.sheets.specs.ModelSheet.{ColumnFields, MarkFields, Source, columnsIn, stepsIn}
+use Rattle.sheets.specs.ModelSheet.{ColumnFields, MarkFields, Source, columnsIn, stepsIn, ofSheet}
 
 -- ---- the task that the fields say
 unfoldable pub columnSaid : (ℕ → ColumnFields) → ℕ → ColumnEntry
@@ -62,3 +62,7 @@ noModel =
       need = unused (limits .steps * limits .columns) (mark 0);
       effect = unused (limits .steps * limits .columns) (mark 0);
     }
+
+-- the task that a sheet holds
+unfoldable pub taskOn : List ℕ → Task
+taskOn s = taskIn (ofSheet s)

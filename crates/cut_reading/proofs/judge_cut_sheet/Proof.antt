@@ -1,12 +1,13 @@
 use mathlib.Core.Path.{sym, _∙_}
 use borrow.Author.Tests.{not-true, not-false}
 use lib.ListN.{length}
-use Rattle.cut_sheets.specs.CutSheet.{taskOn}
 use Rattle.cut_sheets.proofs.CutSheetLaws.{front-take}
-use Rattle.cut_reading.proofs.RebuildLaws.{given-accepted, given-columns, few-columns, first-long, first-block, stops-model, stops-inner, stops-ten, ends, rest-all}
+use Rattle.cut_reading.proofs.RebuildLaws.{first-long, first-block, stops-model, stops-inner, stops-ten, ends, rest-all}
+use Rattle.sheet_laws.proofs.Given.{given-accepted, given-columns, few-columns}
 use borrow.Author.Needs.{needs}
 use Rattle.cut_reading.proofs.judge_cut_sheet.Statement.{statement}
 use Rattle.cut_reading.proofs.judge_cut_sheet.Tie as tie
+use Rattle.sheets.specs.Holding.{taskOn}
 
 unpack-model-requires : tie.Need-unpack-model-requires
 unpack-model-requires c κs = search needs

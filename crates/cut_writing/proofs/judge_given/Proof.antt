@@ -1,11 +1,12 @@
 use native.Mathlib.Omega.{arith}
 use mathlib.Core.Path.{refl}
 use borrow.Author.Needs.{needs}
-use Rattle.cut_sheets.specs.CutSheet.{taskOn}
-use Rattle.cut_reading.proofs.RebuildLaws.{given-accepted, given-columns, few-columns, first-long, first-block}
+use Rattle.cut_reading.proofs.RebuildLaws.{first-long, first-block}
+use Rattle.sheet_laws.proofs.Given.{given-accepted, given-columns, few-columns}
 use Rattle.cut_writing.proofs.CutWritingLaws.{given-model, given-cuts, too-many, lent-judged}
 use Rattle.cut_writing.proofs.judge_given.Statement.{statement}
 use Rattle.cut_writing.proofs.judge_given.Tie as tie
+use Rattle.sheets.specs.Holding.{taskOn}
 
 unpack-model-requires : tie.Need-unpack-model-requires
 unpack-model-requires c κs = search needs

@@ -1,13 +1,13 @@
 use native.Mathlib.Omega.{arith}
 use mathlib.Core.Path.{refl, sym, _∙_}
 use borrow.Author.Needs.{needs}
-use Rattle.cut_sheets.specs.CutSheet.{taskOn}
 use Rattle.cut_writing.proofs.CutWritingLaws.{given-places, given-ok, given-refused, room-refused, put-written}
 use Prim.Native.Nat.{_+_, _*_}
 use Rattle.fields.specs.Packing.{bytesFor}
 use Rattle.cut_sheets.specs.CutPart.{cutBits}
 use Rattle.cut_writing.proofs.write_cuts.Statement.{statement}
 use Rattle.cut_writing.proofs.write_cuts.Tie as tie
+use Rattle.sheets.specs.Holding.{taskOn}
 
 judge-given-requires : tie.Need-judge-given-requires
 judge-given-requires c κs = search needs

@@ -5,7 +5,8 @@ use lib.ListN.{length, replicate}
 use Rattle.task.specs.Tables.{taskOf}
 use Rattle.task.proofs.LoopLaws.{length-mapped}
 use Rattle.task.proofs.TableLaws.{steps-of}
-use Rattle.refining.proofs.ModelLaws.{model-given, first-stands, first-fills}
+use Rattle.refining.proofs.ModelLaws.{model-given, first-stands}
+use Rattle.blocks.proofs.FlatLaws.{first-fills}
 use borrow.Author.Needs.{needs}
 use Rattle.refining.proofs.refine.Statement.{statement}
 use Rattle.refining.proofs.refine.Tie as tie
@@ -41,7 +42,7 @@ cut-on-requires c κs = let m = c .before .before .before .before .before .befor
     let l : length (m .start) ≡ 16 = search (length-mapped, needs, o) in
     let z : length {A = ℕ} (replicate 4096 0) ≡ 4096 = refl in
     let f = c .before .before .before .before .before .before .before .before .fill-first .ensures in
-    ((p .1, p .2, omega (arith, k, v .steps, steps-of m), first-fills m v (replicate 4096 0) z f, search needs, p .3), record { task = taskOf m; given = model-given m v l (c .before .before .before .before .before .before .before .before .before .before .before .before .before .before .fill-needs .ensures) (c .before .before .before .before .before .before .before .before .before .before .before .before .fill-lands .ensures) (c .before .before .before .before .before .before .before .before .before .before .fill-goals .ensures); stand = first-stands m v _ (replicate 4096 0) f })
+    ((p .1, p .2, omega (arith, k, v .steps, steps-of m), first-fills m (replicate 4096 0) f (v .columns .1) z, search needs, p .3), record { task = taskOf m; given = model-given m v l (c .before .before .before .before .before .before .before .before .before .before .before .before .before .before .fill-needs .ensures) (c .before .before .before .before .before .before .before .before .before .before .before .before .fill-lands .ensures) (c .before .before .before .before .before .before .before .before .before .before .fill-goals .ensures); stand = first-stands m v _ (replicate 4096 0) f })
 
 same-length : tie.Need-same-length
 same-length c = search needs

@@ -1,5 +1,6 @@
 use native.Mathlib.Omega.{arith}
-use Rattle.running.proofs.RunningLaws.{sheet-refused, given, room-refused, fits, known, room-for-steps, path-costs, ran}
+use Rattle.sheet_laws.proofs.Given.{given-accepted}
+use Rattle.running.proofs.RunningLaws.{sheet-refused, room-refused, fits, known, room-for-steps, path-costs, ran}
 use borrow.Author.Needs.{needs}
 use Rattle.running.proofs.run.Statement.{statement}
 use Rattle.running.proofs.run.Tie as tie
@@ -39,7 +40,7 @@ sub-spare c = let g = c .before .before .before .before .before .before .before 
 refine-requires : tie.Need-refine-requires
 refine-requires c κs = let g = c .before .before .before .before .before .before .before .before .before .before .before .before .args in
     let f = fits (g .sheet .now) (g .room) (g .cuts .now) (g .rows .now) (c .before .before .before .before .before .before .before .before .unpack-model .ensures) (c .before .before .before .before .before .before .before .if1 .left) (c .before .before .before .before .judge-room .ensures) (c .before .before .before .if2 .left) in
-    (given (g .sheet .now) (g .room) (g .cuts .now) (g .rows .now) (c .before .before .before .before .before .before .before .before .unpack-model .ensures) (c .before .before .before .before .before .before .before .if1 .left), omega (arith, f .few, f .some), f .cuts-fit, search needs)
+    (given-accepted (g .sheet .now) (c .before .before .before .before .before .before .before .before .unpack-model .ensures) (c .before .before .before .before .before .before .before .if1 .left), omega (arith, f .few, f .some), f .cuts-fit, search needs)
 
 tell-requires : tie.Need-tell-requires
 tell-requires c κs = let g = c .before .before .before .before .before .before .before .before .before .before .before .before .before .before .before .before .before .before .before .args in
