@@ -29,7 +29,7 @@ unfolding puts
 puts-before [] at l k v h = refl
 puts-before (x ∷ xs) at l k v h = puts-before xs (at + 1) (set l at x) k v (omega arith) ∙ ap (puts (at + 1) xs) (set-swap l k at v x h)
 
-three : (t : Task) (ss : List Step) → length (listed rowPlace (rows t ss)) ≡ length ss * 3
+pub three : (t : Task) (ss : List Step) → length (listed rowPlace (rows t ss)) ≡ length ss * 3
 unfolding rows listed rowPlace
 three t [] = refl
 three t (s ∷ ss) = omega (arith, three t ss)

@@ -1,0 +1,146 @@
+-- What a run leaves: its answer, and room in the lists for its cuts and rows.
+use Prim.Native.Nat.{ℕ, _+_, _-_, _*_, _≤_, _<_}
+use native.Mathlib.Omega.{arith}
+use native.Mathlib.Decide.{ℕ-discrete}
+use mathlib.Core.Path.{_≡_, refl, sym, ap, _∙_, subst}
+use mathlib.Core.Logic.{_⊎_, inl, inr, ⊎-elim}
+use mathlib.Core.List.{List, []}
+use lib.ListN.{length, drop, length-append}
+use borrow.Author.Tests.{eq-eqb, ne-eqb}
+use Rattle.task.specs.declared.Step.{Step}
+use Rattle.task.specs.Loops.{over}
+use Rattle.task.specs.Task.{Task, Accepted}
+use Rattle.fields.specs.Judging.{refusal}
+use Rattle.fields.proofs.JudgingLaws.{neither, refusal-append}
+use Rattle.sheets.specs.ModelSheet.{ofSheet, sheetChecks, judgeSheet}
+use Rattle.sheets.specs.Holding.{taskIn}
+use Rattle.sheet_laws.proofs.Held.{accepted-task}
+use Rattle.run.specs.Run as run
+use Rattle.run.specs.Run.{plan, noPlan, «open», blocksIn, rowsOf}
+use Rattle.run.proofs.RunLaws.{run-right}
+use Rattle.run.proofs.LengthLaws.{plan-short}
+use Rattle.refining.specs.Listing.{listed, cutPlace, rowPlace}
+use Rattle.refining.proofs.CutListLaws.{listed-length}
+use Rattle.running.specs.declared.Answer.{Answer}
+use Rattle.running.specs.declared.Answer.the-variants.{Refused}
+use Rattle.running.specs.Running as running
+use Rattle.running.specs.Running.{roomChecks, runChecks, told, outcome, made}
+use Rattle.running.proofs.RowLaws.{three}
+use Rattle.running.proofs.RunningLaws.{Fits, room-fits}
+use Rattle.counts.specs.Counts.{cutValues, rowValues, Counted}
+
+-- ---- the numbers of an answer
+module _ (t : Task) (blocks : ℕ) where
+  cuts-told : (a : run.Answer) → cutValues (told t blocks a) ≡ (blocks - 1) * 3
+  unfolding told cutValues
+  cuts-told (plan ss) = refl
+  cuts-told noPlan = refl
+  cuts-told («open» e) = refl
+
+  rows-told : (a : run.Answer) → rowValues (told t blocks a) ≡ length (listed rowPlace (rowsOf t a))
+  unfolding told rowValues rowsOf listed
+  rows-told (plan ss) = sym (three t ss)
+  rows-told noPlan = refl
+  rows-told («open» e) = refl
+
+  counted-told : (a : run.Answer) → 1 ≤ blocks → blocks ≤ 256 → ((ss : List Step) → a ≡ plan ss → length ss < 256) → Counted (told t blocks a)
+  unfolding told Counted
+  counted-told (plan ss) h g short = (h, g, let q = short ss refl in omega arith)
+  counted-told noPlan h g short = (h, g)
+  counted-told («open» e) h g short = (h, g)
+
+  rows-few : (room : ℕ) (a : run.Answer) → 1 ≤ room → ((ss : List Step) → a ≡ plan ss → length ss < room) → rowValues (told t blocks a) ≤ (room - 1) * 3
+  unfolding told rowValues
+  rows-few room (plan ss) h short = let q = short ss refl in omega arith
+  rows-few room noPlan h short = omega arith
+  rows-few room («open» e) h short = omega arith
+
+-- ---- a run and its outcome
+module _ (s : List ℕ) (room : ℕ) (c r : List ℕ) where
+  abbrev pub t : Task
+  t = taskIn (ofSheet s)
+
+  abbrev pub o : run.Outcome
+  o = run.run t room
+
+  abbrev pub cutList : List ℕ
+  cutList = listed cutPlace (o .made)
+
+  abbrev pub rowList : List ℕ
+  rowList = listed rowPlace (rowsOf t (o .answer))
+
+  module _ (a : Answer) (c′ r′ : List ℕ) where
+    -- a run that was made
+    pub record Ran : Type 0 where
+      pub ok : refusal (runChecks s room c r) ≡ 0
+      pub answer : a ≡ told t (blocksIn o) (o .answer)
+      pub cut-list : c′ ≡ over cutList c
+      pub row-list : r′ ≡ over rowList r
+
+    pub record NotRan : Type 0 where
+      pub bad : refusal (runChecks s room c r) ≡ 0 → ⊥
+      pub answer : a ≡ Refused (refusal (runChecks s room c r))
+
+  -- what the code that goes on has to know
+  pub record Known (a : Answer) (c′ r′ : List ℕ) : Type 0 where
+    pub counted : Counted a
+    pub cuts-fit : cutValues a ≤ length c
+    pub rows-fit : rowValues a ≤ length r
+    pub cuts-in : cutValues a ≤ length c′
+    pub rows-in : rowValues a ≤ length r′
+
+  module _ {a : Answer} {c′ r′ : List ℕ} (e : outcome a c′ r′ ≡ running.running s room c r) where
+    pub ran-or-not : Ran a c′ r′ ⊎ NotRan a c′ r′
+    unfolding running.running made
+    ran-or-not = split (ℕ-discrete (refusal (runChecks s room c r)) 0)
+      where
+        split : Dec (refusal (runChecks s room c r) ≡ 0) → Ran a c′ r′ ⊎ NotRan a c′ r′
+        split (yes z) =
+            let m : outcome a c′ r′ ≡ made t o c r = e ∙ simp (eq-eqb (refusal (runChecks s room c r)) 0 z) in
+            inl (record { ok = z; answer = ap (λ (x : running.Outcome). x .answer) m; cut-list = ap (λ (x : running.Outcome). x .cuts) m; row-list = ap (λ (x : running.Outcome). x .rows) m })
+        split (no z) =
+            let m : outcome a c′ r′ ≡ outcome (Refused (refusal (runChecks s room c r))) c r = e ∙ simp (ne-eqb (refusal (runChecks s room c r)) 0 z) in
+            inr (record { bad = z; answer = ap (λ (x : running.Outcome). x .answer) m })
+
+    module _ (w : Ran a c′ r′) where
+      parts : (refusal (sheetChecks s) ≡ 0) × (refusal (roomChecks room c r) ≡ 0)
+      unfolding runChecks
+      parts = neither (refusal (sheetChecks s)) (refusal (roomChecks room c r)) (sym (refusal-append (sheetChecks s) (roomChecks room c r)) ∙ w .ok)
+
+      fits : Fits room c r
+      fits = room-fits room c r (parts .1)
+
+      accepted : Accepted t
+      accepted = accepted-task s (unfold judgeSheet in parts .0)
+
+      few-blocks : length (o .made) + 1 ≤ room
+      few-blocks = omega (arith, run-right t accepted room (fits .some) .fits)
+
+      short : (ss : List Step) → o .answer ≡ plan ss → length ss < room
+      short = plan-short t accepted room (fits .some)
+
+      pub cuts-long : cutValues a ≡ length cutList
+      unfolding blocksIn
+      cuts-long = ap cutValues (w .answer) ∙ cuts-told t (blocksIn o) (o .answer) ∙ omega (arith, listed-length (o .made))
+
+      pub rows-long : rowValues a ≡ length rowList
+      rows-long = ap rowValues (w .answer) ∙ rows-told t (blocksIn o) (o .answer)
+
+    pub known : Known a c′ r′
+    unfolding Counted cutValues rowValues blocksIn over
+    known = ⊎-elim yes-ran not-ran ran-or-not
+      where
+        yes-ran : Ran a c′ r′ → Known a c′ r′
+        yes-ran w =
+            let f = fits w in
+            let b = few-blocks w in
+            record {
+              counted = subst Counted (sym (w .answer)) (counted-told t (blocksIn o) (o .answer) (omega arith) (omega (arith, f .few)) (λ ss q. omega (arith, short w ss q, f .few)));
+              cuts-fit = omega (arith, cuts-long w, listed-length (o .made), f .cuts-fit, b);
+              rows-fit = omega (arith, ap rowValues (w .answer), rows-few t (blocksIn o) room (o .answer) (f .some) (short w), f .rows-fit);
+              cuts-in = omega (arith, cuts-long w, ap length (w .cut-list), length-append cutList (drop (length cutList) c));
+              rows-in = omega (arith, rows-long w, ap length (w .row-list), length-append rowList (drop (length rowList) r));
+            }
+
+        not-ran : NotRan a c′ r′ → Known a c′ r′
+        not-ran n = subst (λ (x : Answer). Known x c′ r′ → Known a c′ r′) (n .answer) (λ x. x) (record { counted = tt; cuts-fit = omega arith; rows-fit = omega arith; cuts-in = omega arith; rows-in = omega arith })

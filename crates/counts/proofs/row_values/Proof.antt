@@ -1,0 +1,53 @@
+use mathlib.Core.Path.{refl}
+use Rattle.counts.specs.Counts.{rowValues, Counted}
+use borrow.Author.Needs.{needs}
+use Rattle.counts.proofs.row_values.Statement.{statement}
+use Rattle.counts.proofs.row_values.Tie as tie
+use Rattle.counts.proofs.row_values.Reads as reads
+use Rattle.counts.proofs.row_values.Lts as lts
+
+enum-known-answer : tie.Need-enum-known-answer
+enum-known-answer c = search needs
+
+mul-result : tie.Need-mul-result
+unfolding Counted
+mul-result c = let e = c .before .answer .given .1 in let k = rw e at (c .before .before .before .pre) in let h = k .2 in search (needs, h)
+
+enum-told : tie.Need-enum-told
+enum-told c = search needs
+
+enum-told-2 : tie.Need-enum-told-2
+enum-told-2 c = search needs
+
+enum-told-3 : tie.Need-enum-told-3
+enum-told-3 c = search needs
+
+returns : tie.Need-returns
+unfolding rowValues
+returns c = let e = c .before .answer .given .1 in rw e refl
+
+returns-2 : tie.Need-returns-2
+unfolding rowValues
+returns-2 c = search needs
+
+returns-3 : tie.Need-returns-3
+unfolding rowValues
+returns-3 c = search needs
+
+returns-4 : tie.Need-returns-4
+unfolding rowValues
+returns-4 c = search needs
+
+pub row-values-spec : {M : Type 1} → statement M
+row-values-spec =
+    tie.close
+    (tie.spec
+    enum-known-answer
+    mul-result
+    enum-told
+    enum-told-2
+    enum-told-3
+    returns
+    returns-2
+    returns-3
+    returns-4)

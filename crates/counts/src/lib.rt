@@ -1,0 +1,44 @@
+// How many values an answer's cuts and rows take in the lists.
+ghost use mathlib.Core.Path.{_≡_};
+ghost use Rattle.counts.specs.Counts.{cutValues, rowValues, Counted};
+use planner::Answer;
+
+// How many values the cuts of an answer take: there is one cut less than blocks.
+pub fn cut_values(answer: Answer) -> usize
+    requires { ⌜ Counted answer ⌝ }
+    ensures { λ r. ⌜ r ≡ cutValues answer ⌝ }
+{
+    match answer {
+        Answer::Plan {
+            cost: _,
+            steps: _,
+            blocks,
+        } => (blocks - 1) * 3,
+        Answer::NoPlan { blocks } => (blocks - 1) * 3,
+        Answer::Open {
+            estimate: _,
+            blocks,
+        } => (blocks - 1) * 3,
+        Answer::Refused(_) => 0,
+    }
+}
+
+// How many values its rows take: a plan has one for each step.
+pub fn row_values(answer: Answer) -> usize
+    requires { ⌜ Counted answer ⌝ }
+    ensures { λ r. ⌜ r ≡ rowValues answer ⌝ }
+{
+    match answer {
+        Answer::Plan {
+            cost: _,
+            steps,
+            blocks: _,
+        } => steps * 3,
+        Answer::NoPlan { blocks: _ } => 0,
+        Answer::Open {
+            estimate: _,
+            blocks: _,
+        } => 0,
+        Answer::Refused(_) => 0,
+    }
+}

@@ -1,0 +1,3 @@
+pub mod ValueLaws
+pub mod RunEntryLaws
+pub mod AskEntryLaws

@@ -1,0 +1,128 @@
+-- A run on byte lists is the run on lists of so many values, its cuts and rows put as bytes.
+use Prim.Native.Nat.{ℕ, _-_, _*_, _/_, _≤_, _<_}
+use native.Mathlib.Omega.{arith}
+use mathlib.Core.Path.{_≡_, sym, ap, ap₂, _∙_}
+use mathlib.Core.Logic.{⊎-elim}
+use mathlib.Core.Bool.{Bool, true, false}
+use mathlib.Core.List.{List, [], _∷_, _++_}
+use lib.Dec.{ltb}
+use lib.ListN.{length, take, drop, length-append}
+use lib.Seq.{length-take-le}
+use borrow.Author.Tests.{eq-eqb, ne-eqb}
+use Rattle.task.specs.Loops.{over}
+use Rattle.task.specs.Sizes.{limits}
+use Rattle.task.proofs.LoopLaws.{true-or-false}
+use Rattle.fields.specs.Judging.{check, outside, refusal, each, _then_}
+use Rattle.fields.specs.Places.{puts}
+use Rattle.fields.proofs.JudgingLaws.{applies, refusal-append, inside-means}
+use Rattle.sheets.specs.ModelSheet.{sheetChecks}
+use Rattle.run.specs.Run.{blocksIn}
+use Rattle.running.specs.declared.Answer.{Answer}
+use Rattle.running.specs.Running.{roomChecks, runChecks, told, outcome, running}
+use Rattle.counts.specs.Counts.{cutValues, rowValues, Counted}
+use Rattle.counts.proofs.CountLaws as count
+use Rattle.historian.specs.Entries.{bytesAt, bytesOf, fewPlaces, answerNumber, usable, entryChecks, madeBytes, runOutcome, runEntry}
+use Rattle.historian.proofs.ValueLaws.{list-over, nothing-put, usable-is, same-test}
+
+-- ---- 8 is judged on the places lent
+module _ (s : List ℕ) (room : ℕ) (cuts rows c r : List ℕ) (lc : length c ≡ usable 255 12 (length cuts) * 3) (lr : length r ≡ usable 255 12 (length rows) * 3) where
+  few-same : room ≤ 256 → (bytes list : List ℕ) → length list ≡ usable 255 12 (length bytes) * 3 → ltb (length bytes / 12) (room - 1) ≡ ltb (length list) ((room - 1) * 3)
+  few-same h bytes list e =
+      let u = usable-is 255 12 (length bytes) in
+      same-test (length bytes / 12) (room - 1) (length list) ((room - 1) * 3) (λ p. omega (arith, u .there)) (λ p. let q = u .enough (room - 1) (omega arith) p in omega arith)
+
+  abbrev RoomSame : Type 0
+  RoomSame = refusal (check 7 (outside 1 (limits .blocks) room) ∷ fewPlaces (room - 1) 12 cuts ∷ fewPlaces (room - 1) 12 rows ∷ []) ≡ refusal (roomChecks room c r)
+
+  room-same : RoomSame
+  unfolding roomChecks fewPlaces
+  room-same = ⊎-elim bad good (true-or-false (outside 1 256 room))
+    where
+      bad : outside 1 256 room ≡ true → RoomSame
+      bad h = sym (applies 7 (outside 1 256 room) _ h (λ z. omega arith)) ∙ applies 7 (outside 1 256 room) _ h (λ z. omega arith)
+
+      good : outside 1 256 room ≡ false → RoomSame
+      good h =
+          let i = inside-means 1 256 room h in
+          ap₂ (λ (x y : Bool). refusal (check 7 (outside 1 256 room) ∷ check 8 x ∷ check 8 y ∷ [])) (few-same (i .1) cuts c lc) (few-same (i .1) rows r lr)
+
+  checks-same : refusal (entryChecks s room cuts rows) ≡ refusal (runChecks s room c r)
+  unfolding entryChecks runChecks
+  checks-same = refusal-append (sheetChecks s) _ ∙ ap (λ (x : ℕ). refusal (sheetChecks s) then x) room-same ∙ sym (refusal-append (sheetChecks s) (roomChecks room c r))
+
+  module _ {a : Answer} {c′ r′ : List ℕ} (e : outcome a c′ r′ ≡ running s room c r) where
+    abbrev cutList : List ℕ
+    cutList = count.cutList s room c r
+
+    abbrev rowList : List ℕ
+    rowList = count.rowList s room c r
+
+    -- the bytes have the places
+    pub record Room : Type 0 where
+      pub cut-bytes : cutValues a * 4 ≤ length cuts
+      pub row-bytes : rowValues a * 4 ≤ length rows
+
+    pub room-for : Room
+    room-for =
+        let k = count.known s room c r e in
+        record {
+          cut-bytes = omega (arith, k .cuts-fit, lc, usable-is 255 12 (length cuts) .there);
+          row-bytes = omega (arith, k .rows-fit, lr, usable-is 255 12 (length rows) .there);
+        }
+
+    -- the entry's outcome
+    pub entry-told : (cs rs : List ℕ) {cuts′ rows′ : List ℕ} {n : ℕ} → cuts′ ≡ puts 0 (each (cutValues a) (bytesAt (c′ ++ cs))) cuts → rows′ ≡ puts 0 (each (rowValues a) (bytesAt (r′ ++ rs))) rows
+        → n ≡ answerNumber a → runOutcome n cuts′ rows′ ≡ runEntry s room cuts rows
+    unfolding runEntry madeBytes cutValues rowValues answerNumber
+    entry-told cs rs {cuts′} {rows′} {n} p q k = ⊎-elim yes-ran not-ran (count.ran-or-not s room c r e)
+      where
+        yes-ran : count.Ran s room c r a c′ r′ → runOutcome n cuts′ rows′ ≡ runEntry s room cuts rows
+        yes-ran w =
+            let x : cuts′ ≡ over (bytesOf cutList) cuts = p ∙ list-over cutList c cs cuts (cutValues a) (w .cut-list) (count.cuts-long s room c r e w) (room-for .cut-bytes) in
+            let y : rows′ ≡ over (bytesOf rowList) rows = q ∙ list-over rowList r rs rows (rowValues a) (w .row-list) (count.rows-long s room c r e w) (room-for .row-bytes) in
+            let z = k ∙ ap answerNumber (w .answer) in
+            simp (eq-eqb (refusal (entryChecks s room cuts rows)) 0 (checks-same ∙ w .ok)) (rw (x, y, z))
+
+        not-ran : count.NotRan s room c r a c′ r′ → runOutcome n cuts′ rows′ ≡ runEntry s room cuts rows
+        not-ran b =
+            let x : cuts′ ≡ cuts = p ∙ ap (λ (z : Answer). puts 0 (each (cutValues z) (bytesAt (c′ ++ cs))) cuts) (b .answer) ∙ nothing-put (c′ ++ cs) cuts in
+            let y : rows′ ≡ rows = q ∙ ap (λ (z : Answer). puts 0 (each (rowValues z) (bytesAt (r′ ++ rs))) rows) (b .answer) ∙ nothing-put (r′ ++ rs) rows in
+            let z : n ≡ refusal (entryChecks s room cuts rows) = k ∙ ap answerNumber (b .answer) ∙ sym checks-same in
+            simp (ne-eqb (refusal (entryChecks s room cuts rows)) 0 (λ v. b .bad (sym checks-same ∙ v))) (rw (x, y) (ap (λ (m : ℕ). runOutcome m cuts rows) z))
+
+-- ---- the same with the first values of two lists to work in
+module _ (s : List ℕ) (room : ℕ) (cutList rowList cuts rows : List ℕ) (h : (length cutList ≡ 765) × (length rowList ≡ 765)) {m n : ℕ} (p : m ≡ usable 255 12 (length cuts)) (q : n ≡ usable 255 12 (length rows)) where
+  part : (list bytes : List ℕ) {k : ℕ} → length list ≡ 765 → k ≡ usable 255 12 (length bytes) → length (take (k * 3) list) ≡ usable 255 12 (length bytes) * 3
+  part list bytes {k} l e = length-take-le (k * 3) list (omega (arith, usable-is 255 12 (length bytes) .few)) ∙ ap (λ (x : ℕ). x * 3) e
+
+  abbrev c : List ℕ
+  c = take (m * 3) cutList
+
+  abbrev r : List ℕ
+  r = take (n * 3) rowList
+
+  module _ {a : Answer} {c′ r′ : List ℕ} (e : outcome a c′ r′ ≡ running s room c r) where
+    known : count.Known s room c r a c′ r′
+    known = count.known s room c r e
+
+    places : Room s room cuts rows c r (part cutList cuts (h .0) p) (part rowList rows (h .1) q) e
+    places = room-for s room cuts rows c r (part cutList cuts (h .0) p) (part rowList rows (h .1) q) e
+
+    pub counted : Counted a
+    counted = known .counted
+
+    pub cuts-go : {k : ℕ} → k ≡ cutValues a → (k < 1024) × (k ≤ length (c′ ++ drop (m * 3) cutList)) × (k * 4 ≤ length cuts)
+    cuts-go z =
+        let f = usable-is 255 12 (length cuts) .few in
+        (omega (arith, known .cuts-fit, part cutList cuts (h .0) p, f), omega (arith, known .cuts-in, length-append c′ (drop (m * 3) cutList)), omega (arith, places .cut-bytes))
+
+    pub rows-go : {k : ℕ} → k ≡ rowValues a → (k < 1024) × (k ≤ length (r′ ++ drop (n * 3) rowList)) × (k * 4 ≤ length rows)
+    rows-go z =
+        let f = usable-is 255 12 (length rows) .few in
+        (omega (arith, known .rows-fit, part rowList rows (h .1) q, f), omega (arith, known .rows-in, length-append r′ (drop (n * 3) rowList)), omega (arith, places .row-bytes))
+
+    pub told-in : {k l x : ℕ} {cuts′ rows′ : List ℕ} → k ≡ cutValues a → l ≡ rowValues a → x ≡ answerNumber a
+        → cuts′ ≡ puts 0 (each k (bytesAt (c′ ++ drop (m * 3) cutList))) cuts → rows′ ≡ puts 0 (each l (bytesAt (r′ ++ drop (n * 3) rowList))) rows → runOutcome x cuts′ rows′ ≡ runEntry s room cuts rows
+    told-in k l x y z =
+        entry-told s room cuts rows c r (part cutList cuts (h .0) p) (part rowList rows (h .1) q) e (drop (m * 3) cutList) (drop (n * 3) rowList)
+        (y ∙ ap (λ (i : ℕ). puts 0 (each i (bytesAt (c′ ++ drop (m * 3) cutList))) cuts) k) (z ∙ ap (λ (i : ℕ). puts 0 (each i (bytesAt (r′ ++ drop (n * 3) rowList))) rows) l) x

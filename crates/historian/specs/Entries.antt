@@ -1,0 +1,94 @@
+-- 01, "The planner's boundary": the run and the question for the historian, which passes lists of bytes.
+use Prim.Native.Nat.{ℕ, _+_, _-_, _*_, _/_, _%_, _^_, _≤_}
+use mathlib.Core.List.{List, [], _∷_, _++_}
+use lib.Dec.{eqb, ltb}
+use lib.ListN.{length, getD}
+use Rattle.task.specs.Loops.{over}
+use Rattle.task.specs.Sizes.{limits}
+use Rattle.task.specs.Task.{Task}
+use Rattle.fields.specs.Judging.{Check, check, outside, pick, refusal, each}
+use Rattle.sheets.specs.ModelSheet.{ofSheet, sheetChecks}
+use Rattle.sheets.specs.Holding.{taskIn}
+use Rattle.run.specs.Run as run
+use Rattle.run.specs.Run.{blocksIn, rowsOf}
+use Rattle.refining.specs.Listing.{listed, cutPlace, rowPlace}
+use Rattle.running.specs.declared.Answer.{Answer}
+use Rattle.running.specs.declared.Answer.the-variants.{Plan, NoPlan, Open, Refused}
+use Rattle.running.specs.Running.{told}
+use Rattle.cut_sheets.specs.CutSheet.{taskOn, cutSheetChecks, cutsOf}
+use Rattle.asking.specs.Question.{statesIn, badStates, estimatesOf}
+
+-- a value is four bytes, most significant first
+unfoldable pub valueBytes : ℕ → List ℕ
+valueBytes v = v / 2 ^ 24 % 256 ∷ v / 2 ^ 16 % 256 ∷ v / 2 ^ 8 % 256 ∷ v % 256 ∷ []
+
+-- the bytes of value i of a list
+unfoldable pub bytesAt : List ℕ → ℕ → List ℕ
+bytesAt vs i = valueBytes (getD vs i 0)
+
+-- the values of a list one after the other
+unfoldable pub bytesOf : List ℕ → List ℕ
+bytesOf vs = each (length vs) (bytesAt vs)
+
+-- 8: fewer than n places of w bytes each; bytes short of a whole place are no place
+unfoldable pub fewPlaces : ℕ → ℕ → List ℕ → Check
+fewPlaces n w bytes = check 8 (ltb (length bytes / w) n)
+
+-- ---- a run
+
+-- kind, blocks, steps and value in one number
+unfoldable pub answerNumber : Answer → ℕ
+answerNumber (Refused n) = n
+answerNumber (Plan cost steps blocks) = 1 * 2 ^ 56 + blocks * 2 ^ 44 + steps * 2 ^ 32 + cost
+answerNumber (NoPlan blocks) = 2 * 2 ^ 56 + blocks * 2 ^ 44
+answerNumber (Open estimate blocks) = 3 * 2 ^ 56 + blocks * 2 ^ 44 + estimate
+
+-- the sheet, then 7, then 8: cuts and rows each need room less 1 places, of three values each
+unfoldable pub entryChecks : List ℕ → ℕ → List ℕ → List ℕ → List Check
+entryChecks s room cuts rows =
+    sheetChecks s ++ (check 7 (outside 1 (limits .blocks) room) ∷ fewPlaces (room - 1) 12 cuts ∷ fewPlaces (room - 1) 12 rows ∷ [])
+
+pub record RunOutcome : Type 0 where
+  pub answer : ℕ
+  pub cuts : List ℕ
+  pub rows : List ℕ
+
+abbrev pub runOutcome : ℕ → List ℕ → List ℕ → RunOutcome
+runOutcome a cuts rows = record { answer = a; cuts = cuts; rows = rows }
+
+-- a run that is made: the bytes of its cuts, and for a plan those of its rows, over the front of the lists
+unfoldable pub madeBytes : Task → run.Outcome → List ℕ → List ℕ → RunOutcome
+madeBytes t o cuts rows =
+    runOutcome (answerNumber (told t (blocksIn o) (o .answer))) (over (bytesOf (listed cutPlace (o .made))) cuts) (over (bytesOf (listed rowPlace (rowsOf t (o .answer)))) rows)
+
+-- a refusal returns only its number and changes nothing lent
+unfoldable pub runEntry : List ℕ → ℕ → List ℕ → List ℕ → RunOutcome
+runEntry s room cuts rows =
+    let n = refusal (entryChecks s room cuts rows) in
+    pick (eqb n 0) (madeBytes (taskIn (ofSheet s)) (run.run (taskIn (ofSheet s)) room) cuts rows) (runOutcome n cuts rows)
+
+-- ---- a question
+
+-- both sheets, then 11, then 8: a place of one value for each state
+unfoldable pub askChecks : List ℕ → List ℕ → List ℕ → List ℕ → List Check
+askChecks model s states estimates =
+    cutSheetChecks model s ++ (check 11 (badStates (taskOn model) states) ∷ fewPlaces (statesIn (taskOn model) states) 4 estimates ∷ [])
+
+pub record AskOutcome : Type 0 where
+  pub answer : ℕ
+  pub estimates : List ℕ
+
+abbrev pub askOutcome : ℕ → List ℕ → AskOutcome
+askOutcome a estimates = record { answer = a; estimates = estimates }
+
+-- 0 and the bytes of one estimate for each state; or a refusal
+unfoldable pub askEntry : List ℕ → List ℕ → List ℕ → List ℕ → AskOutcome
+askEntry model s states estimates =
+    let n = refusal (askChecks model s states estimates) in
+    pick (eqb n 0) (askOutcome 0 (over (bytesOf (estimatesOf (taskOn model) (cutsOf s) states)) estimates)) (askOutcome n estimates)
+
+-- ---- what code counts
+
+-- how many of the whole places of w bytes can matter where no more than n can be used
+unfoldable pub usable : ℕ → ℕ → ℕ → ℕ
+usable n w bytes = pick (ltb n (bytes / w)) n (bytes / w)

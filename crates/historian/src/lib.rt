@@ -1,0 +1,135 @@
+// The run and the question as the historian calls them, a C program that passes byte lists and numbers. Nothing is asked of the caller.
+ghost use mathlib.Core.Path.{_≡_};
+ghost use Prim.Native.Nat.{_+_, _*_, _≤_, _<_};
+ghost use lib.ListN.{length};
+ghost use Rattle.task.specs.Sizes.{limits};
+ghost use Rattle.fields.specs.Judging.{each};
+ghost use Rattle.fields.specs.Places.{puts};
+ghost use Rattle.counts.specs.Counts.{Counted};
+ghost use Rattle.historian.specs.Entries.{valueBytes, bytesAt, usable, answerNumber, runOutcome, runEntry, askOutcome, askEntry};
+use counts::cut_values;
+use counts::row_values;
+use planner::Answer;
+use planner::Asked;
+use planner::question;
+use planner::run;
+use task::Model;
+
+// What a kind, a block and a step weigh in an answer number: 2^56, 2^44 and 2^32.
+const KIND: u64 = 72057594037927936;
+
+const BLOCK: u64 = 17592186044416;
+
+const STEP: u64 = 4294967296;
+
+// How many of the whole places of w bytes can matter where no more than most can be used.
+fn usable_places(most: usize, w: usize, bytes: usize) -> usize
+    requires { ⌜ 1 ≤ w ⌝ }
+    ensures { λ r. ⌜ r ≡ usable most w bytes ⌝ }
+{
+    let places = bytes / w;
+    if most < places {
+        return most;
+    }
+    places
+}
+
+// Puts value i of a list: four bytes, most significant first.
+fn put_value(v: u32, i: usize, bytes: &mut [u8])
+    requires { ⌜ (i < 1024) × (i * 4 + 4 ≤ length (now bytes)) ⌝ }
+    ensures { λ _. ⌜ now (bytes .exit) ≡ puts (i * 4) (valueBytes v) (now (bytes .entry)) ⌝ }
+{
+    let at = i * 4;
+    bytes[at] = (v / 16777216 % 256) as u8;
+    bytes[at + 1] = (v / 65536 % 256) as u8;
+    bytes[at + 2] = (v / 256 % 256) as u8;
+    bytes[at + 3] = (v % 256) as u8;
+}
+
+// Puts the first n values of a list over the front of the bytes.
+fn put_values(values: &[u32], n: usize, bytes: &mut [u8])
+    requires { ⌜ (n < 1024) × (n ≤ length (now values)) × (n * 4 ≤ length (now bytes)) ⌝ }
+    ensures { λ _. ⌜ now (bytes .exit) ≡ puts 0 (each n (bytesAt (now (values .entry)))) (now (bytes .entry)) ⌝ }
+{
+    let mut i: usize = 0;
+    while i < n {
+        put_value(values[i], i, bytes);
+        i += 1;
+    }
+}
+
+// Kind, blocks, steps and value in one number.
+fn answer_number(answer: Answer) -> u64
+    requires { ⌜ Counted answer ⌝ }
+    ensures { λ r. ⌜ r ≡ answerNumber answer ⌝ }
+{
+    match answer {
+        Answer::Plan {
+            cost,
+            steps,
+            blocks,
+        } => KIND + blocks as u64 * BLOCK + steps as u64 * STEP + cost as u64,
+        Answer::NoPlan { blocks } => 2 * KIND + blocks as u64 * BLOCK,
+        Answer::Open { estimate, blocks } => 3 * KIND + blocks as u64 * BLOCK + estimate as u64,
+        Answer::Refused(number) => number as u64,
+    }
+}
+
+// A run on lists of bytes, with two lists of numbers to work in.
+fn run_in(
+    sheet: &[u8],
+    room: u32,
+    cut_list: &mut [u32],
+    row_list: &mut [u32],
+    cuts: &mut [u8],
+    rows: &mut [u8],
+) -> u64
+    requires { ⌜ (length (now «cut_list») ≡ 765) × (length (now «row_list») ≡ 765) ⌝ }
+    ensures { λ r. ⌜ runOutcome r (now (cuts .exit)) (now (rows .exit)) ≡ runEntry (now (sheet .entry)) room (now (cuts .entry)) (now (rows .entry)) ⌝ }
+{
+    let m = usable_places(Model::BLOCKS - 1, 12, cuts.len()) * 3;
+    let n = usable_places(Model::BLOCKS - 1, 12, rows.len()) * 3;
+    let answer = run(sheet, room, &mut cut_list[..m], &mut row_list[..n]);
+    put_values(cut_list, cut_values(answer), cuts);
+    put_values(row_list, row_values(answer), rows);
+    answer_number(answer)
+}
+
+// A question on lists of bytes, with a list of numbers to work in.
+fn ask_in(model: &[u8], sheet: &[u8], states: &[u8], list: &mut [u32], estimates: &mut [u8]) -> u32
+    requires { ⌜ length (now list) ≡ 64 ⌝ }
+    ensures { λ r. ⌜ askOutcome r (now (estimates .exit)) ≡ askEntry (now (model .entry)) (now (sheet .entry)) (now (states .entry)) (now (estimates .entry)) ⌝ }
+{
+    let n = usable_places(64, 4, estimates.len());
+    match question(model, sheet, states, &mut list[..n]) {
+        Asked::Estimates(asked) => {
+            put_values(list, asked, estimates);
+            0
+        }
+        Asked::Refused(number) => number as u32,
+    }
+}
+
+// A run: three values of four bytes each for a cut and for a row. The answer is one number.
+#[no_mangle]
+pub extern "C" fn elhavir_run(sheet: &[u8], room: u32, cuts: &mut [u8], rows: &mut [u8]) -> u64
+    ensures { λ r. ⌜ runOutcome r (now (cuts .exit)) (now (rows .exit)) ≡ runEntry (now (sheet .entry)) room (now (cuts .entry)) (now (rows .entry)) ⌝ }
+{
+    let mut cut_list = [0u32; (Model::BLOCKS - 1) * 3];
+    let mut row_list = [0u32; (Model::BLOCKS - 1) * 3];
+    run_in(sheet, room, &mut cut_list, &mut row_list, cuts, rows)
+}
+
+// A question: four bytes for each estimate. It returns 0, or the refusal number.
+#[no_mangle]
+pub extern "C" fn elhavir_question(
+    model: &[u8],
+    sheet: &[u8],
+    states: &[u8],
+    estimates: &mut [u8],
+) -> u32
+    ensures { λ r. ⌜ askOutcome r (now (estimates .exit)) ≡ askEntry (now (model .entry)) (now (sheet .entry)) (now (states .entry)) (now (estimates .entry)) ⌝ }
+{
+    let mut list = [0u32; 64];
+    ask_in(model, sheet, states, &mut list, estimates)
+}
