@@ -4,7 +4,7 @@ use native.Mathlib.Omega.{arith}
 use native.Mathlib.Decide.{ℕ-discrete}
 use mathlib.Core.Path.{_≡_, refl, sym, ap, _∙_, subst}
 use mathlib.Core.Logic.{_⊎_, inl, inr, ⊎-elim}
-use mathlib.Core.List.{List, []}
+use mathlib.Core.List.{List}
 use lib.ListN.{length, drop, length-append}
 use borrow.Author.Tests.{eq-eqb, ne-eqb}
 use Rattle.task.specs.declared.Step.{Step}
@@ -12,8 +12,8 @@ use Rattle.task.specs.Loops.{over}
 use Rattle.task.specs.Task.{Task, Accepted}
 use Rattle.fields.specs.Judging.{refusal}
 use Rattle.fields.proofs.JudgingLaws.{neither, refusal-append}
-use Rattle.sheets.specs.ModelSheet.{ofSheet, sheetChecks, judgeSheet}
-use Rattle.sheets.specs.Holding.{taskIn}
+use Rattle.sheets.specs.ModelSheet.{sheetChecks, judgeSheet}
+use Rattle.sheets.specs.Holding.{taskOn}
 use Rattle.sheet_laws.proofs.Held.{accepted-task}
 use Rattle.run.specs.Run as run
 use Rattle.run.specs.Run.{plan, noPlan, «open», blocksIn, rowsOf}
@@ -58,7 +58,7 @@ module _ (t : Task) (blocks : ℕ) where
 -- ---- a run and its outcome
 module _ (s : List ℕ) (room : ℕ) (c r : List ℕ) where
   abbrev pub t : Task
-  t = taskIn (ofSheet s)
+  t = taskOn s
 
   abbrev pub o : run.Outcome
   o = run.run t room
@@ -111,6 +111,7 @@ module _ (s : List ℕ) (room : ℕ) (c r : List ℕ) where
       fits = room-fits room c r (parts .1)
 
       accepted : Accepted t
+      unfolding taskOn
       accepted = accepted-task s (unfold judgeSheet in parts .0)
 
       few-blocks : length (o .made) + 1 ≤ room

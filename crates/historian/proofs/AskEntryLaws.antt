@@ -2,8 +2,8 @@
 use Prim.Native.Nat.{ℕ, _*_, _/_, _≤_, _<_}
 use native.Mathlib.Omega.{arith}
 use native.Mathlib.Decide.{ℕ-discrete}
-use mathlib.Core.Path.{_≡_, refl, sym, ap, _∙_}
-use mathlib.Core.Logic.{_⊎_, inl, inr, ⊎-elim}
+use mathlib.Core.Path.{_≡_, sym, ap, _∙_}
+use mathlib.Core.Logic.{_⊎_, ⊎-elim}
 use mathlib.Core.Bool.{Bool, true, false}
 use mathlib.Core.List.{List, [], _∷_, _++_}
 use lib.Dec.{ltb}
@@ -17,14 +17,15 @@ use Rattle.fields.specs.Judging.{check, refusal, each, _then_}
 use Rattle.fields.specs.Places.{puts}
 use Rattle.fields.proofs.JudgingLaws.{applies, passed, neither, refusal-append}
 use Rattle.sheets.specs.LentTables.{tooFew}
-use Rattle.cut_sheets.specs.CutSheet.{taskOn, cutSheetChecks, cutsOf}
+use Rattle.cut_sheets.specs.CutSheet.{cutSheetChecks, cutsOf}
 use Rattle.asking.specs.declared.Asked.{Asked}
 use Rattle.asking.specs.declared.Asked.the-variants.{Estimates, Refused}
 use Rattle.asking.specs.Question.{statesIn, badStates, estimateAt, estimatesOf, questionChecks, outcome, asking}
 use Rattle.asking.specs.Question as question
 use Rattle.asking.proofs.AnswerLaws.{few-states}
-use Rattle.historian.specs.Entries.{bytesAt, bytesOf, fewPlaces, usable, askChecks, askOutcome, askEntry}
-use Rattle.historian.proofs.ValueLaws.{list-over, nothing-put, Usable, usable-is, same-test}
+use Rattle.historian.specs.Entries.{bytesAt, fewPlaces, usable, askChecks, askOutcome, askEntry}
+use Rattle.historian.proofs.ValueLaws.{list-over, usable-is, same-test}
+use Rattle.sheets.specs.Holding.{taskOn}
 
 module _ (model s states bytes l : List ℕ) (long : length l ≡ usable 64 4 (length bytes)) where
   abbrev t : Task

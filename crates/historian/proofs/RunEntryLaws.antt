@@ -16,9 +16,8 @@ use Rattle.fields.specs.Judging.{check, outside, refusal, each, _then_}
 use Rattle.fields.specs.Places.{puts}
 use Rattle.fields.proofs.JudgingLaws.{applies, refusal-append, inside-means}
 use Rattle.sheets.specs.ModelSheet.{sheetChecks}
-use Rattle.run.specs.Run.{blocksIn}
 use Rattle.running.specs.declared.Answer.{Answer}
-use Rattle.running.specs.Running.{roomChecks, runChecks, told, outcome, running}
+use Rattle.running.specs.Running.{roomChecks, runChecks, outcome, running}
 use Rattle.counts.specs.Counts.{cutValues, rowValues, Counted}
 use Rattle.counts.proofs.CountLaws as count
 use Rattle.historian.specs.Entries.{bytesAt, bytesOf, fewPlaces, answerNumber, usable, entryChecks, madeBytes, runOutcome, runEntry}

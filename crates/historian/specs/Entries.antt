@@ -1,5 +1,5 @@
 -- 01, "The planner's boundary": the run and the question for the historian, which passes lists of bytes.
-use Prim.Native.Nat.{ℕ, _+_, _-_, _*_, _/_, _%_, _^_, _≤_}
+use Prim.Native.Nat.{ℕ, _+_, _-_, _*_, _/_, _%_, _^_}
 use mathlib.Core.List.{List, [], _∷_, _++_}
 use lib.Dec.{eqb, ltb}
 use lib.ListN.{length, getD}
@@ -7,15 +7,15 @@ use Rattle.task.specs.Loops.{over}
 use Rattle.task.specs.Sizes.{limits}
 use Rattle.task.specs.Task.{Task}
 use Rattle.fields.specs.Judging.{Check, check, outside, pick, refusal, each}
-use Rattle.sheets.specs.ModelSheet.{ofSheet, sheetChecks}
-use Rattle.sheets.specs.Holding.{taskIn}
+use Rattle.sheets.specs.ModelSheet.{sheetChecks}
+use Rattle.sheets.specs.Holding.{taskOn}
 use Rattle.run.specs.Run as run
 use Rattle.run.specs.Run.{blocksIn, rowsOf}
 use Rattle.refining.specs.Listing.{listed, cutPlace, rowPlace}
 use Rattle.running.specs.declared.Answer.{Answer}
 use Rattle.running.specs.declared.Answer.the-variants.{Plan, NoPlan, Open, Refused}
 use Rattle.running.specs.Running.{told}
-use Rattle.cut_sheets.specs.CutSheet.{taskOn, cutSheetChecks, cutsOf}
+use Rattle.cut_sheets.specs.CutSheet.{cutSheetChecks, cutsOf}
 use Rattle.asking.specs.Question.{statesIn, badStates, estimatesOf}
 
 -- a value is four bytes, most significant first
@@ -65,7 +65,7 @@ madeBytes t o cuts rows =
 unfoldable pub runEntry : List ℕ → ℕ → List ℕ → List ℕ → RunOutcome
 runEntry s room cuts rows =
     let n = refusal (entryChecks s room cuts rows) in
-    pick (eqb n 0) (madeBytes (taskIn (ofSheet s)) (run.run (taskIn (ofSheet s)) room) cuts rows) (runOutcome n cuts rows)
+    pick (eqb n 0) (madeBytes (taskOn s) (run.run (taskOn s) room) cuts rows) (runOutcome n cuts rows)
 
 -- ---- a question
 
