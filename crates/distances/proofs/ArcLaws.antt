@@ -1,109 +1,23 @@
--- Masks of tests, and the test of an arc by masks.
+-- The test of an arc by words of blocks.
 use mathlib.Core.Path.{_≡_, refl, sym, _∙_, ap, ap₂}
-use mathlib.Core.Logic.{_⊎_, inl, inr, ⊎-elim, _≢_}
+use mathlib.Core.Logic.{_⊎_, inl, inr, ⊎-elim}
 use mathlib.Core.Bool.{Bool, true, false, not, cond, _&&_, and-false, and-true}
 use mathlib.Core.List.{List}
-use Prim.Native.Nat.{ℕ, zero, suc, _+_, _*_, _/_, _%_, _^_, _<_, _≤_}
-use native.Mathlib.Nat.{two-pow-succ, not-suc-le-zero}
+use Prim.Native.Nat.{ℕ, zero, suc, _+_, _*_, _/_, _%_, _<_, _≤_}
 use native.Mathlib.Numerals.{add-one}
 use native.Mathlib.Omega.{arith}
-use lib.Dec.{eqb}
-use lib.Pow.{pow-pos, pow-mono}
-use lib.Bits.{bitAnd, and-block}
-use lib.ListN.{length, getD, set}
-use lib.Seq.{getD-set-same, getD-set-other}
-use borrow.Author.Tests.{eq-eqb, ne-eqb}
-use borrow.Author.Count.{below-more}
+use lib.Bits.{bitAnd}
+use lib.ListN.{getD}
 use Rattle.task.specs.Loops.{all}
-use Rattle.task.proofs.LoopLaws.{all-fails, all-intro, below-suc, true-or-false}
+use Rattle.task.proofs.LoopLaws.{below-suc, true-or-false}
 use Rattle.blocks.specs.Blocks.{common, isEmpty}
 use Rattle.blocks.specs.Flat.{past, rowOf}
 use Rattle.blocks.specs.Masks.{lies, passes, leadsBy}
-use Rattle.blocks.proofs.PartLaws.{same-or-not}
-use Rattle.distances.specs.Arcs.{fitsIn, bitsBelow, keeps, keptMask, parted, apartMask, takenIn, takeWord, told, toldIn, Kept, Apart, Taken, RowTaken}
+use Rattle.distances.specs.Arcs.{fitsIn, keeps, parted, keptMeet}
+use Rattle.distances.specs.Words.{wordOf, bitAt, meetsIn, keptPart, keptWord, arcWord, told, toldIn, Able, Met, Opened, Open}
 use Rattle.distances.specs.Turns.{Lowered}
-use Rattle.distances.proofs.LowerLaws.{lowered-no}
-
--- ---- masks of tests
-bit : Bool → ℕ
-bit true = 1
-bit false = 0
-
-bits-step : (f : ℕ → Bool) (k : ℕ) → bitsBelow f (suc k) ≡ bit (f k) * 2 ^ k + bitsBelow f k
-unfolding bitsBelow bit
-bits-step f k = go (f k)
-  where
-    go : (t : Bool) → bitsBelow f k + cond t (2 ^ k) 0 ≡ bit t * 2 ^ k + bitsBelow f k
-    go true = omega arith
-    go false = omega arith
-
-bits-lt : (f : ℕ → Bool) (k : ℕ) → bitsBelow f k < 2 ^ k
-unfolding bitsBelow
-bits-lt f zero = omega arith
-bits-lt f (suc k) = rw two-pow-succ (go (f k) (bits-lt f k))
-  where
-    go : (t : Bool) → bitsBelow f k < 2 ^ k → bitsBelow f k + cond t (2 ^ k) 0 < 2 ^ k + 2 ^ k
-    go true l = omega arith
-    go false l = omega arith
-
-pub bits-none : (f : ℕ → Bool) → bitsBelow f 0 ≡ 0
-unfolding bitsBelow
-bits-none f = refl
-
--- a mask that is made bit by bit
-module _ (f : ℕ → Bool) (k w r : ℕ) (is : w ≡ bitsBelow f k) (new : r ≡ cond (f k) (2 ^ k) 0) where
-  pub mask-more : w + r ≡ bitsBelow f (k + 1)
-  unfolding bitsBelow
-  mask-more = rw (add-one, is, new)
-
-  pub mask-room : k < 32 → w + r < 4294967296
-  mask-room h =
-      let l = bits-lt f (k + 1) in
-      let p : 2 ^ (k + 1) ≤ 2 ^ 32 = pow-mono {i = k + 1} {j = 32} (omega arith) in
-      omega (arith, mask-more)
-
-apart-step : (a b : Bool) (k r : ℕ) → eqb (bitAnd (bit a) (bit b) * 2 ^ k + r) 0 ≡ (eqb r 0 && not (a && b))
-unfolding bit
-apart-step true true k r = rw (and-false (eqb r 0)) (ne-eqb (1 * 2 ^ k + r) 0 (λ z. let p = pow-pos k in omega arith))
-apart-step true false k r = let e : 0 * 2 ^ k + r ≡ r = omega arith in rw (and-true (eqb r 0), e)
-apart-step false b k r = let e : 0 * 2 ^ k + r ≡ r = omega arith in rw (and-true (eqb r 0), e)
-
--- two masks have no bit in common where no number passes both tests
-bits-apart : (f g : ℕ → Bool) (k : ℕ) → eqb (bitAnd (bitsBelow f k) (bitsBelow g k)) 0 ≡ all k (λ i. not (f i && g i))
-unfolding all bitsBelow
-bits-apart f g zero = refl
-bits-apart f g (suc k) =
-    let e = and-block k (bit (f k)) (bit (g k)) (bitsBelow f k) (bitsBelow g k) (bits-lt f k) (bits-lt g k) in
-    ap (λ v. eqb v 0) (ap₂ bitAnd (bits-step f k) (bits-step g k) ∙ e) ∙ apart-step (f k) (g k) k (bitAnd (bitsBelow f k) (bitsBelow g k)) ∙ ap (λ t. t && not (f k && g k)) (bits-apart f g k)
-
--- the mask of one number
-only-none : (i k : ℕ) → k ≤ i → bitsBelow (λ c. eqb c i) k ≡ 0
-unfolding bitsBelow
-only-none i zero h = refl
-only-none i (suc k) h = rw (only-none i k (omega arith), ne-eqb k i (λ e. omega arith))
-
-only-bit : (i k : ℕ) → i < k → bitsBelow (λ c. eqb c i) k ≡ 2 ^ i
-unfolding bitsBelow
-only-bit i zero h = absurd (not-suc-le-zero h)
-only-bit i (suc k) h =
-    ⊎-elim (λ (e : i ≡ k). rw (e, only-none k k (omega arith), eq-eqb k k refl) (omega arith))
-    (λ (l : i < k). rw (only-bit i k l, ne-eqb k i (λ e. omega arith)) (omega arith)) (below-suc h)
-
-only-passes : (f : ℕ → Bool) (i k : ℕ) → i < k → all k (λ c. not (f c && eqb c i)) ≡ not (f i)
-only-passes f i k h =
-    ⊎-elim
-    (λ (t : f i ≡ true). all-fails k _ i h (rw (t, eq-eqb i i refl)) ∙ rw t)
-    (λ (t : f i ≡ false). all-intro k _ (λ c l. ⊎-elim (λ (e : c ≡ i). rw (e, t)) (λ (n : c ≢ i). rw (ne-eqb c i n, and-false (f c))) (same-or-not c i)) ∙ rw t)
-    (true-or-false (f i))
-
-not-not : (b : Bool) → not (not b) ≡ b
-not-not true = refl
-not-not false = refl
-
--- one bit of a mask
-bit-told : (f : ℕ → Bool) (i k : ℕ) → i < k → not (eqb (bitAnd (bitsBelow f k) (2 ^ i)) 0) ≡ f i
-bit-told f i k h =
-    ap not (ap (λ v. eqb (bitAnd (bitsBelow f k) v) 0) (sym (only-bit i k h)) ∙ bits-apart f (λ c. eqb c i) k ∙ only-passes f i k h) ∙ not-not (f i)
+use Rattle.distances.proofs.LowerLaws.{lowered-no, lowered-same}
+use Rattle.distances.proofs.WordLaws.{word-and, word-same, word-told}
 
 -- ---- an arc in three parts: of the step and the first block, of the step and the second, and of the two blocks
 shuffle : (a b c d : Bool) → ((a && b) && (c && d)) ≡ ((a && c) && (b && d))
@@ -122,63 +36,91 @@ turned false true c = refl
 turned false false c = refl
 
 lead-split : (columns : ℕ) (needs lands sets : List ℕ) (s a b : ℕ)
-    → leadsBy columns needs lands sets s a b ≡ (fitsIn columns lands sets s b && (fitsIn columns needs sets s a && eqb (bitAnd (keptMask columns lands s) (apartMask columns sets b a)) 0))
-unfolding leadsBy passes fitsIn keptMask apartMask keeps parted
+    → leadsBy columns needs lands sets s a b ≡ (fitsIn columns lands sets s b && (fitsIn columns needs sets s a && keptMeet columns lands sets s b a))
+unfolding leadsBy passes fitsIn keptMeet keeps parted
 lead-split columns needs lands sets s a b =
     all-and (λ j. lies (past needs (rowOf s) j) (past sets (rowOf a) j) && lies (past lands (rowOf s) j) (past sets (rowOf b) j))
     (λ j. not (isEmpty (past lands (rowOf s) j) && isEmpty (common (past sets (rowOf a) j) (past sets (rowOf b) j)))) columns
-    ∙ ap₂ (λ (x y : Bool). x && y) (all-and _ _ columns) (sym (bits-apart _ _ columns))
-    ∙ turned (fitsIn columns needs sets s a) (fitsIn columns lands sets s b) (eqb (bitAnd (keptMask columns lands s) (apartMask columns sets b a)) 0)
+    ∙ ap (λ (x : Bool). x && keptMeet columns lands sets s b a) (all-and _ _ columns)
+    ∙ turned (fitsIn columns needs sets s a) (fitsIn columns lands sets s b) (keptMeet columns lands sets s b a)
 
--- with the tables right, the masks tell an arc
-pub arc-told : (columns count steps groups : ℕ) (needs lands sets : List ℕ) (b : ℕ) (K P T : List ℕ) → Kept columns steps lands K → Apart columns count sets b P → Taken columns count needs sets groups T
-    → (s a : ℕ) → s < steps → s / 32 < groups → a < count → toldIn columns lands sets T s b (getD K s 0) P a ≡ leadsBy columns needs lands sets s a b
-unfolding toldIn told takeWord takenIn
-arc-told columns count steps groups needs lands sets b K P T k p t s a hs hg ha =
-    let e : s / 32 * 32 + s % 32 ≡ s = omega arith in
-    let w : not (eqb (bitAnd (getD T (s / 32 * 256 + a) 0) (2 ^ (s % 32))) 0) ≡ fitsIn columns needs sets s a =
-    rw (t .each (s / 32) a hg ha) (bit-told (takenIn columns needs sets (s / 32) a) (s % 32) 32 (omega arith)) ∙ ap (λ (i : ℕ). fitsIn columns needs sets i a) e in
-    rw (w, k .each s hs, p .each a ha) (sym (lead-split columns needs lands sets s a b))
+-- ---- the columns that a step keeps
+and-assoc : (a b c : Bool) → ((a && b) && c) ≡ (a && (b && c))
+and-assoc true b c = refl
+and-assoc false b c = refl
 
-pub told-is : (takes : List ℕ) (s kept : ℕ) (apart : List ℕ) (a bit : ℕ) (r : Bool) → bit ≡ 2 ^ (s % 32)
-    → r ≡ (not (eqb (bitAnd (getD takes (s / 32 * 256 + a) 0) bit) 0) && eqb (bitAnd kept (getD apart a 0)) 0) → r ≡ told takes s kept apart a
-unfolding told
-told-is takes s kept apart a bit r e h = rw e at h
+pub kept-none : (lands meets : List ℕ) (s w v : ℕ) → v ≡ keptWord lands meets s w v 0
+unfolding keptWord
+kept-none lands meets s w v = refl
 
--- ---- tables filled from the front
-pub filled-more : (g : ℕ → ℕ) (o i v : ℕ) (D : List ℕ) → ((a : ℕ) → a < i → getD D (o + a) 0 ≡ g a) → o + i < length D → v ≡ g i → (a : ℕ) → a < i + 1 → getD (set D (o + i) v) (o + a) 0 ≡ g a
-filled-more g o i v D h l e = below-more (λ a. getD (set D (o + i) v) (o + a) 0 ≡ g a) i (λ a b. getD-set-other D (o + i) (o + a) v 0 (λ q. omega arith) ∙ h a b) (getD-set-same D (o + i) v 0 l ∙ e)
+pub kept-more : (lands meets : List ℕ) (s w v j x r : ℕ) → x ≡ keptWord lands meets s w v j → r ≡ keptPart x (past lands (rowOf s) j) (getD meets (j * 8 + w) 0) → r ≡ keptWord lands meets s w v (j + 1)
+unfolding keptWord
+kept-more lands meets s w v j x r e h = rw (add-one, ← e) h
 
-pub filled-first : (g : ℕ → ℕ) (i v : ℕ) (D : List ℕ) → ((a : ℕ) → a < i → getD D a 0 ≡ g a) → i < length D → v ≡ g i → (a : ℕ) → a < i + 1 → getD (set D i v) a 0 ≡ g a
-filled-first g i v D h l e = below-more (λ a. getD (set D i v) a 0 ≡ g a) i (λ a b. getD-set-other D i a v 0 (λ q. omega arith) ∙ h a b) (getD-set-same D i v 0 l ∙ e)
+part-zero : (v land meet : ℕ) → v ≡ 0 → keptPart v land meet ≡ 0
+unfolding keptPart
+part-zero v land meet e = ⊎-elim (λ (t : isEmpty land ≡ true). rw (t, e)) (λ (t : isEmpty land ≡ false). rw (t, e)) (true-or-false (isEmpty land))
 
-module _ (columns count : ℕ) (needs sets : List ℕ) where
-  pub taken-none : (T : List ℕ) → Taken columns count needs sets 0 T
-  taken-none T = record { each = λ g a l. absurd (not-suc-le-zero l) }
+-- none is left once none is left
+pub kept-zero : (lands meets : List ℕ) (s w v j n : ℕ) → j ≤ n → keptWord lands meets s w v j ≡ 0 → keptWord lands meets s w v n ≡ 0
+unfolding keptWord
+kept-zero lands meets s w v j zero h e = let z : j ≡ 0 = omega arith in rw z at e
+kept-zero lands meets s w v j (suc n) h e =
+    ⊎-elim (λ (q : j ≡ suc n). rw q at e) (λ (l : j < suc n). part-zero _ _ _ (kept-zero lands meets s w v j n (omega arith) e)) (below-suc {j = j} {n = suc n} (omega arith))
 
-  pub taken-more : (g : ℕ) (T T′ : List ℕ) → count ≤ 256 → Taken columns count needs sets g T → RowTaken columns count needs sets g T T′ → Taken columns count needs sets (g + 1) T′
-  taken-more g T T′ h t r =
-      record {
-        each = λ x a l b.
-            below-more (λ y. getD T′ (y * 256 + a) 0 ≡ takeWord columns needs sets y a) g
-            (λ y v. r .before (y * 256 + a) (omega arith) ∙ t .each y a v b)
-            (r .each a b)
-            x l;
-      }
+module _ (columns used : ℕ) (lands sets : List ℕ) (b : ℕ) (M : List ℕ) (met : Met columns used sets (past sets (rowOf b)) M) (s w : ℕ) (hw : w < used) where
+  part-is : (f : ℕ → Bool) (j : ℕ) → j < columns → keptPart (wordOf f w) (past lands (rowOf s) j) (getD M (j * 8 + w) 0) ≡ wordOf (λ a. f a && not (keeps lands s j && parted sets b a j)) w
+  unfolding keptPart keeps parted meetsIn
+  part-is f j h = ⊎-elim
+      (λ (t : isEmpty (past lands (rowOf s) j) ≡ true). rw (t, met .each j w h hw) (word-and f _ w))
+      (λ (t : isEmpty (past lands (rowOf s) j) ≡ false). rw t (word-same _ _ w (λ a. sym (and-true (f a)))))
+      (true-or-false (isEmpty (past lands (rowOf s) j)))
+
+  kept-is : (f : ℕ → Bool) (v : ℕ) → v ≡ wordOf f w → (n : ℕ) → n ≤ columns → keptWord lands M s w v n ≡ wordOf (λ a. f a && keptMeet n lands sets s b a) w
+  unfolding keptWord keptMeet all
+  kept-is f v e zero h = e ∙ word-same _ _ w (λ a. sym (and-true (f a)))
+  kept-is f v e (suc n) h =
+      ap (λ (x : ℕ). keptPart x (past lands (rowOf s) n) (getD M (n * 8 + w) 0)) (kept-is f v e n (omega arith))
+      ∙ part-is (λ a. f a && keptMeet n lands sets s b a) n (omega arith)
+      ∙ word-same _ _ w (λ a. and-assoc (f a) (keptMeet n lands sets s b a) (not (keeps lands s n && parted sets b a n)))
+
+-- ---- an arc
+sorted : (l n h k : Bool) → (l && ((n && h) && k)) ≡ (h && (l && (n && k)))
+sorted true true true k = refl
+sorted true true false k = refl
+sorted true false true k = refl
+sorted true false false k = refl
+sorted false n true k = refl
+sorted false n false k = refl
+
+-- with the tables right, the words tell an arc from an open block
+pub arc-told : (columns steps used : ℕ) (needs lands sets : List ℕ) (b : ℕ) (T M O : List ℕ) (has : ℕ → Bool)
+    → Able columns steps needs sets used T → Met columns used sets (past sets (rowOf b)) M → Opened used has O
+    → (s a : ℕ) → s < steps → a / 32 < used → toldIn columns lands sets T M O s b a ≡ (has a && leadsBy columns needs lands sets s a b)
+unfolding toldIn told arcWord
+arc-told columns steps used needs lands sets b T M O has t m o s a hs ha =
+    let f : ℕ → Bool = λ c. fitsIn columns needs sets s c && has c in
+    let e : bitAnd (getD T (a / 32 * 128 + s) 0) (getD O (a / 32) 0) ≡ wordOf f (a / 32) = rw (t .each (a / 32) s ha hs, o .each (a / 32) ha) (word-and _ _ (a / 32)) in
+    let k = kept-is columns used lands sets b M m s (a / 32) ha f _ e columns (omega arith) in
+    rw k (ap (λ (x : Bool). fitsIn columns lands sets s b && x) (word-told (λ c. f c && keptMeet columns lands sets s b c) a)
+    ∙ sorted (fitsIn columns lands sets s b) (fitsIn columns needs sets s a) (has a) (keptMeet columns lands sets s b a)
+    ∙ ap (λ (x : Bool). has a && x) (sym (lead-split columns needs lands sets s a b)))
+
+-- a block of word w, by that word
+pub told-word : (columns : ℕ) (lands able meets left : List ℕ) (s w v i : ℕ) → i < 32 → v ≡ keptWord lands meets s w (bitAnd (getD able (w * 128 + s) 0) (getD left w 0)) columns
+    → told columns lands able meets left s (w * 32 + i) ≡ bitAt v i
+unfolding told arcWord
+told-word columns lands able meets left s w v i h e =
+    let q : (w * 32 + i) / 32 ≡ w = omega arith in
+    let r : (w * 32 + i) % 32 ≡ i = omega arith in
+    rw (q, r, e)
 
 -- ---- a pass with a test that has a part which is the same everywhere
-pub lowered-same : (f g : ℕ → Bool) (k n : ℕ) (D D′ : List ℕ) → ((a : ℕ) → a < n → f a ≡ g a) → Lowered f k n D D′ → Lowered g k n D D′
-lowered-same f g k n D D′ e l =
-    record {
-      each = λ a h. ⊎-elim (λ v. inl (v .0, (λ t. v .1 (e a h ∙ t)))) (λ v. inr (v .0, v .1, sym (e a h) ∙ v .2)) (l .each a h);
-      rest = l .rest;
-    }
-
-module _ (columns : ℕ) (lands sets takes : List ℕ) (s b kept : ℕ) (apart : List ℕ) (k n : ℕ) (D D′ : List ℕ) where
-  pub no-landing : fitsIn columns lands sets s b ≡ false → Lowered (toldIn columns lands sets takes s b kept apart) k n D D
+module _ (columns : ℕ) (lands sets able meets left : List ℕ) (s b k n : ℕ) (D D′ : List ℕ) where
+  pub no-landing : fitsIn columns lands sets s b ≡ false → Lowered (toldIn columns lands sets able meets left s b) k n D D
   unfolding toldIn
   no-landing e = lowered-no _ k n D (λ a. rw e)
 
-  pub lands-there : fitsIn columns lands sets s b ≡ true → Lowered (told takes s kept apart) k n D D′ → Lowered (toldIn columns lands sets takes s b kept apart) k n D D′
+  pub lands-there : fitsIn columns lands sets s b ≡ true → Lowered (told columns lands able meets left s) k n D D′ → Lowered (toldIn columns lands sets able meets left s b) k n D D′
   unfolding toldIn
   lands-there e = lowered-same _ _ k n D D′ (λ a h. rw e)

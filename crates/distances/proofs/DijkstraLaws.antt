@@ -10,7 +10,7 @@ use native.Mathlib.Omega.{arith}
 use lib.ListN.{length, getD, set, replicate}
 use lib.Seq.{getD-set-same, getD-set-other}
 use Rattle.distances.specs.Ways.{Path, here, step, NoWorse, noWay, IsDist}
-use Rattle.distances.specs.Turns.{weight, Better, Relaxed, Nearest, Started}
+use Rattle.distances.specs.Turns.{weight, Better, Relaxed, Nearest, Settled, Started}
 
 -- how many of the flags are 0
 unfoldable pub zeros : List ℕ → ℕ
@@ -237,6 +237,19 @@ module _ (n : ℕ) (arc : ℕ → ℕ → ℕ → Type 0) (goal : ℕ → Type 0
 
     pub at-end : (a : ℕ) → a < n → IsDist arc goal cost a (getD D a 0)
     at-end a h = record { top = inv .top a h; some-path = λ l. parts a h l .0; no-better = λ p. best h p }
+
+-- once a nearest block is settled, no settled one is farther
+pub settled-nearest : (n : ℕ) (arc : ℕ → ℕ → ℕ → Type 0) (goal : ℕ → Type 0) (cost : ℕ → ℕ) (D F : List ℕ) (b : ℕ) → Inv n arc goal cost D F → Nearest n D F b → Settled n D (set F b 1) b
+settled-nearest n arc goal cost D F b inv near =
+    record {
+      low = λ a h e.
+          same-or-not a b
+          (λ q. rw q (omega arith))
+          (λ d. let f = inv .flag a in let o = getD-set-other F b a 1 0 d in inv .order a b h (near .inside) (one a f (λ z. e (o ∙ z))) (near .open-yet));
+    }
+  where
+    one : (a : ℕ) → getD F a 0 ≤ 1 → (getD F a 0 ≡ 0 → ⊥) → getD F a 0 ≡ 1
+    one a f e = elim (decLt (getD F a 0) 1) [ yes l ↦ absurd (e (omega arith)) | no l ↦ omega arith ]
 
 true-or-false : {P : Type 0} (g : Bool) → (g ≡ true → P) → (g ≡ false → P) → P
 true-or-false true f h = f refl

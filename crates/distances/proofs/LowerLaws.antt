@@ -1,17 +1,22 @@
 -- A pass that lowers values, turn by turn, and the passes over all steps.
-use mathlib.Core.Path.{_≡_, refl, sym, _∙_}
-use mathlib.Core.Bool.{Bool, true, false, cond, false≢true}
+use mathlib.Core.Path.{_≡_, refl, sym, _∙_, ap}
+use mathlib.Core.Bool.{Bool, true, false, cond, _&&_, false≢true, and-false}
 use mathlib.Core.Logic.{_⊎_, inl, inr, ⊎-elim}
 use mathlib.Core.List.{List}
-use Prim.Native.Nat.{ℕ, _+_, _<_, _≤_}
+use Prim.Native.Nat.{ℕ, _+_, _-_, _*_, _/_, _%_, _<_, _≤_}
+use native.Mathlib.Decide.{decLt}
 use native.Mathlib.Omega.{arith}
 use borrow.Author.Count.{below-none, below-more}
+use borrow.Author.Tests.{eq-eqb, ne-eqb}
+use lib.Dec.{eqb}
 use lib.ListN.{length, getD, set}
 use lib.Seq.{getD-set-same, getD-set-other}
+use Rattle.task.proofs.LoopLaws.{and-left, and-right, and-both, true-or-false}
 use Rattle.blocks.specs.Masks.{leadsBy}
 use Rattle.distances.specs.Arcs.{Arc}
 use Rattle.distances.specs.Turns.{weight, Relaxed, Lowered, Started}
 use Rattle.distances.specs.Ways.{noWay}
+use Rattle.distances.specs.Words.{bitAt, inWord}
 
 module _ (f : ℕ → Bool) (k : ℕ) (D : List ℕ) where
   pub lowered-none : Lowered f k 0 D D
@@ -42,6 +47,78 @@ module _ (f : ℕ → Bool) (k : ℕ) (D : List ℕ) where
 pub lowered-no : (f : ℕ → Bool) (k n : ℕ) (D : List ℕ) → ((a : ℕ) → f a ≡ false) → Lowered f k n D D
 lowered-no f k n D h = record { each = λ a l. inl (refl, (λ e. absurd (false≢true (sym (h a) ∙ e)))); rest = λ a l. refl }
 
+pub lowered-same : (f g : ℕ → Bool) (k n : ℕ) (D D′ : List ℕ) → ((a : ℕ) → a < n → f a ≡ g a) → Lowered f k n D D′ → Lowered g k n D D′
+lowered-same f g k n D D′ e l =
+    record {
+      each = λ a h. ⊎-elim (λ v. inl (v .0, (λ t. v .1 (e a h ∙ t)))) (λ v. inr (v .0, v .1, sym (e a h) ∙ v .2)) (l .each a h);
+      rest = l .rest;
+    }
+
+-- a pass over the open blocks alone, where every other block has no greater value
+pub lowered-open : (f g has : ℕ → Bool) (k n m : ℕ) (D D′ : List ℕ) → n ≤ m → ((a : ℕ) → a < m → f a ≡ (has a && g a)) → ((a : ℕ) → n ≤ a → has a ≡ false)
+    → ((a : ℕ) → a < n → has a ≡ false → getD D a 0 ≤ k) → Lowered f k m D D′ → Lowered g k n D D′
+lowered-open f g has k n m D D′ h e out low l =
+    record {
+      each = λ a b. ⊎-elim
+          (λ v. inl (v .0, (λ t. ⊎-elim (λ (o : has a ≡ true). v .1 (e a (omega arith) ∙ and-both o t)) (λ (o : has a ≡ false). low a b o) (true-or-false (has a)))))
+          (λ v. inr (v .0, v .1, and-right (has a) (g a) (sym (e a (omega arith)) ∙ v .2)))
+          (l .each a (omega arith));
+      rest = λ a b. elim (decLt a m) [
+        | yes q ↦ ⊎-elim (λ v. v .0) (λ v. absurd (false≢true (sym (out a b) ∙ and-left (has a) (g a) (sym (e a q) ∙ v .2)))) (l .each a q)
+        | no q ↦ l .rest a (omega arith)
+      ];
+    }
+
+-- ---- a word of blocks
+module _ (w v : ℕ) where
+  pub in-word : (i : ℕ) → i < 32 → inWord w v (w * 32 + i) ≡ bitAt v i
+  unfolding inWord
+  in-word i h =
+      let q : (w * 32 + i) / 32 ≡ w = omega arith in
+      let r : (w * 32 + i) % 32 ≡ i = omega arith in
+      rw (q, r, eq-eqb w w refl)
+
+  out-of-word : (a : ℕ) → (a / 32 ≡ w → ⊥) → inWord w v a ≡ false
+  unfolding inWord
+  out-of-word a n = rw (ne-eqb (a / 32) w n)
+
+module _ (w v k : ℕ) (D : List ℕ) where
+  pub word-start : Lowered (inWord w v) k (w * 32) D D
+  word-start = record { each = λ a h. inl (refl, (λ t. absurd (false≢true (sym (out-of-word w v a (λ q. omega arith)) ∙ t)))); rest = λ a h. refl }
+
+  pub word-none : (n : ℕ) → v ≡ 0 → Lowered (inWord w v) k n D D
+  unfolding inWord bitAt
+  word-none n e = lowered-no _ k n D (λ a. rw (e, and-false (eqb (a / 32) w)))
+
+  -- a pass over the words before w, and then over w
+  pub word-more : (f : ℕ → Bool) (D′ D″ : List ℕ) → Lowered f k (w * 32) D D′ → Lowered (inWord w v) k (w * 32 + 32) D′ D″ → ((i : ℕ) → i < 32 → f (w * 32 + i) ≡ bitAt v i)
+      → Lowered f k ((w + 1) * 32) D D″
+  word-more f D′ D″ p l e =
+      record {
+        each = λ a h. elim (decLt a (w * 32)) [ yes q ↦ early a q | no q ↦ late a (omega arith) (omega arith) ];
+        rest = λ a h. l .rest a (omega arith) ∙ p .rest a (omega arith);
+      }
+    where
+      early : (a : ℕ) → a < w * 32 → ((getD D″ a 0 ≡ getD D a 0) × (f a ≡ true → getD D a 0 ≤ k)) ⊎ ((getD D″ a 0 ≡ k) × (k < getD D a 0) × (f a ≡ true))
+      early a q =
+          ⊎-elim
+          (λ x. ⊎-elim (λ y. inl (x .0 ∙ y .0, y .1)) (λ y. inr (x .0 ∙ y .0, y .1, y .2)) (p .each a q))
+          (λ x. absurd (false≢true (sym (out-of-word w v a (λ z. omega arith)) ∙ x .2)))
+          (l .each a (omega arith))
+
+      same : (a : ℕ) → w * 32 ≤ a → a < w * 32 + 32 → f a ≡ inWord w v a
+      same a h q =
+          let z : w * 32 + (a - w * 32) ≡ a = omega arith in
+          sym (ap f z) ∙ e (a - w * 32) (omega arith) ∙ sym (in-word w v (a - w * 32) (omega arith)) ∙ ap (inWord w v) z
+
+      late : (a : ℕ) → w * 32 ≤ a → a < w * 32 + 32 → ((getD D″ a 0 ≡ getD D a 0) × (f a ≡ true → getD D a 0 ≤ k)) ⊎ ((getD D″ a 0 ≡ k) × (k < getD D a 0) × (f a ≡ true))
+      late a h q =
+          let r = p .rest a h in
+          ⊎-elim
+          (λ x. inl (x .0 ∙ r, (λ t. let u = x .1 (sym (same a h q) ∙ t) in omega arith)))
+          (λ x. inr (x .0, (let u = x .1 in omega arith), same a h q ∙ x .2))
+          (l .each a q)
+
 -- the steps below s were tried: as Relaxed, with a test for an arc
 pub record Part (n : ℕ) (lead : ℕ → ℕ → Bool) (cost : ℕ → ℕ) (D D′ : List ℕ) (b s : ℕ) : Type 0 where
   pub each : (a : ℕ) → a < n → (getD D′ a 0 ≡ getD D a 0) ⊎ ((x : ℕ) × (x < s) × (lead x a ≡ true) × (getD D′ a 0 ≡ getD D b 0 + weight cost x) × (getD D b 0 + weight cost x < getD D a 0))
@@ -52,17 +129,18 @@ module _ (n : ℕ) (lead : ℕ → ℕ → Bool) (cost : ℕ → ℕ) (b : ℕ) 
   pub part-none : Part n lead cost D D b 0
   part-none = record { each = λ a h. inl refl; tried = λ a x h l. omega arith; rest = λ a h. refl }
 
-  module _ {s : ℕ} {D′ D″ : List ℕ} (p : Part n lead cost D D′ b s) (w : Lowered (lead s) (getD D b 0 + weight cost s) n D′ D″) where
-    part-down : (a : ℕ) → a < n → getD D′ a 0 ≤ getD D a 0
-    part-down a h = ⊎-elim (λ e. omega arith) (λ v. omega arith) (p .each a h)
+  -- no value is greater than before
+  pub part-down : {s : ℕ} {D′ : List ℕ} → Part n lead cost D D′ b s → (a : ℕ) → a < n → getD D′ a 0 ≤ getD D a 0
+  part-down p a h = ⊎-elim (λ e. omega arith) (λ v. omega arith) (p .each a h)
 
+  module _ {s : ℕ} {D′ D″ : List ℕ} (p : Part n lead cost D D′ b s) (w : Lowered (lead s) (getD D b 0 + weight cost s) n D′ D″) where
     pub part-more : Part n lead cost D D″ b (s + 1)
     part-more =
         record {
           each = λ a h.
               ⊎-elim
               (λ k. ⊎-elim (λ e. inl (k .0 ∙ e)) (λ v. inr (v .0, omega arith, v .2, k .0 ∙ v .3, v .4)) (p .each a h))
-              (λ k. let d = part-down a h in inr (s, omega arith, k .2, k .0, omega arith))
+              (λ k. let d = part-down p a h in inr (s, omega arith, k .2, k .0, omega arith))
               (w .each a h);
           tried = λ a x h l.
               below-more (λ y. lead y a ≡ true → getD D″ a 0 ≤ getD D b 0 + weight cost y) s

@@ -30,6 +30,10 @@ pub record Nearest (n : ℕ) (D F : List ℕ) (b : ℕ) : Type 0 where
   pub known : getD D b 0 < noWay
   pub least : (k : ℕ) → k < n → getD F k 0 ≡ 0 → getD D b 0 ≤ getD D k 0
 
+-- a settled block is no farther than b
+pub record Settled (n : ℕ) (D F : List ℕ) (b : ℕ) : Type 0 where
+  pub low : (a : ℕ) → a < n → (getD F a 0 ≡ 0 → ⊥) → getD D a 0 ≤ getD D b 0
+
 -- what the search for a nearest open block answers: the block, or n where none has a value
 pub record Picked (n : ℕ) (D F : List ℕ) (r : ℕ) : Type 0 where
   pub within : r ≤ n

@@ -1,21 +1,27 @@
 // The distances of blocks: for each block the least cost and, among those, the least number of steps to a goal block.
 ghost use mathlib.Core.Path.{_≡_};
-ghost use mathlib.Core.Bool.{true, cond, not, _&&_};
+ghost use mathlib.Core.Bool.{cond};
 ghost use Prim.Native.Nat.{ℕ, _+_, _*_, _/_, _^_, _<_, _≤_};
-ghost use lib.Dec.{eqb};
+ghost use lib.Bits.{bitAnd};
 ghost use lib.ListN.{length, getD};
 ghost use Rattle.task.specs.Sizes.{limits};
 ghost use Rattle.task.specs.Task.{Task};
-ghost use Rattle.blocks.specs.Flat.{blocksIn};
+ghost use Rattle.blocks.specs.Flat.{past, rowOf, blocksIn};
 ghost use Rattle.blocks.specs.Masks.{goalBy};
 ghost use Rattle.distances.specs.Ways.{noWay, AllDist};
-ghost use Rattle.distances.specs.Turns.{Picked, Lowered, Relaxed, Started};
-ghost use Rattle.distances.specs.Arcs.{Arc, fitsIn, keptMask, apartMask, takeWord, told, toldIn, Kept, Apart, Taken, RowTaken, costIn, GoalIn};
+ghost use Rattle.distances.specs.Turns.{Settled, Picked, Lowered, Relaxed, Started};
+ghost use Rattle.distances.specs.Arcs.{Arc, fitsIn, costIn, GoalIn};
+ghost use Rattle.distances.specs.Words.{word, words, wordsFor, wordOf, bitAt, inWord, needIn, meetsIn, heldIn, openIn, RowAble, Able, RowMet, Met, Opened, Open, keptPart, keptWord, told, toldIn};
 ghost use Rattle.distances.specs.Coded.{codedOver, Tables};
 use task::Block;
 use task::Model;
 
 const NO_WAY: u64 = Model::NO_WAY as u64 * 65536;
+
+// Sets of blocks stand in words of 32 bits, a bit for each block.
+const WORD: usize = 32;
+
+const WORDS: usize = Model::BLOCKS / WORD;
 
 // The weight of a bit where a test passed, else 0.
 fn bit_if(t: bool, i: usize) -> u32
@@ -48,133 +54,209 @@ pub fn fits_in(
     true
 }
 
-// The columns that step s keeps, as a mask.
-fn kept_mask(columns: usize, s: usize, lands: &[u32; Model::STEPS * Model::COLUMNS]) -> u32
-    requires { ⌜ (columns ≤ limits .columns) × (s < limits .steps) ⌝ }
-    ensures { λ r. ⌜ r ≡ keptMask columns (now (lands .entry)) s ⌝ }
+// The blocks of word w that hold a need in column j, as a mask.
+fn need_word(w: usize, j: usize, need: u32, sets: &[u32; Model::BLOCKS * Model::COLUMNS]) -> u32
+    requires { ⌜ (w < words) × (j < limits .columns) ⌝ }
+    ensures { λ r. ⌜ r ≡ wordOf (needIn (now (sets .entry)) need j) w ⌝ }
 {
-    let rs = s * Model::COLUMNS;
-    let mut w: u32 = 0;
-    let mut j: usize = 0;
-    while j < columns {
-        w += bit_if(lands[rs + j] == 0, j);
-        j += 1;
+    let mut v: u32 = 0;
+    let mut i: usize = 0;
+    while i < WORD {
+        let at = (w * WORD + i) * Model::COLUMNS + j;
+        v += bit_if(blocks::lies(need, sets[at]), i);
+        i += 1;
     }
-    w
+    v
 }
 
-// The columns in which blocks a and b have no position in common, as a mask.
-fn apart_mask(
-    columns: usize,
-    b: usize,
-    a: usize,
+// The blocks of a mask that hold a need too.
+fn with_need(
+    v: u32,
+    w: usize,
+    j: usize,
+    need: u32,
     sets: &[u32; Model::BLOCKS * Model::COLUMNS],
 ) -> u32
-    requires { ⌜ (columns ≤ limits .columns) × (b < limits .blocks) × (a < limits .blocks) ⌝ }
-    ensures { λ r. ⌜ r ≡ apartMask columns (now (sets .entry)) b a ⌝ }
+    requires { ⌜ (w < words) × (j < limits .columns) ⌝ }
+    ensures { λ r. ⌜ r ≡ bitAnd v (wordOf (needIn (now (sets .entry)) need j) w) ⌝ }
 {
-    let ra = a * Model::COLUMNS;
-    let rb = b * Model::COLUMNS;
-    let mut w: u32 = 0;
-    let mut j: usize = 0;
-    while j < columns {
-        w += bit_if(sets[ra + j] & sets[rb + j] == 0, j);
-        j += 1;
+    if v == 0 {
+        return v;
     }
-    w
+    if need == 0 {
+        return v;
+    }
+    v & need_word(w, j, need, sets)
 }
 
-// Which of the 32 steps of group g can be taken from block a, as a mask.
-fn take_word(
+// The blocks of word w from which step s can be taken, as a mask.
+fn able_word(
     columns: usize,
-    g: usize,
-    a: usize,
+    s: usize,
+    w: usize,
     needs: &[u32; Model::STEPS * Model::COLUMNS],
     sets: &[u32; Model::BLOCKS * Model::COLUMNS],
 ) -> u32
-    requires { ⌜ (columns ≤ limits .columns) × (g < 4) × (a < limits .blocks) ⌝ }
-    ensures { λ r. ⌜ r ≡ takeWord columns (now (needs .entry)) (now (sets .entry)) g a ⌝ }
+    requires { ⌜ (columns ≤ limits .columns) × (s < limits .steps) × (w < words) ⌝ }
+    ensures { λ r. ⌜ r ≡ wordOf (fitsIn columns (now (needs .entry)) (now (sets .entry)) s) w ⌝ }
 {
-    let mut w: u32 = 0;
-    let mut i: usize = 0;
-    while i < 32 {
-        w += bit_if(fits_in(columns, g * 32 + i, a, needs, sets), i);
-        i += 1;
+    let rs = s * Model::COLUMNS;
+    let mut v: u32 = 4294967295;
+    let mut j: usize = 0;
+    while j < columns {
+        v = with_need(v, w, j, needs[rs + j], sets);
+        j += 1;
     }
-    w
+    v
 }
 
-// The kept columns of every step.
-fn fill_kept(
+// The row of word w in the table of blocks that can take a step.
+fn fill_row(
     columns: usize,
     steps: usize,
-    lands: &[u32; Model::STEPS * Model::COLUMNS],
-    kept: &mut [u32; Model::STEPS],
+    w: usize,
+    needs: &[u32; Model::STEPS * Model::COLUMNS],
+    sets: &[u32; Model::BLOCKS * Model::COLUMNS],
+    able: &mut [u32; WORDS * Model::STEPS],
 )
-    requires { ⌜ (columns ≤ limits .columns) × (steps ≤ limits .steps) × (length (now kept) ≡ limits .steps) ⌝ }
-    ensures { λ _. ⌜ Kept columns steps (now (lands .entry)) (now (kept .exit)) ⌝ }
+    requires { ⌜ (columns ≤ limits .columns) × (steps ≤ limits .steps) × (w < words) × (length (now able) ≡ words * limits .steps) ⌝ }
+    ensures { λ _. ⌜ RowAble columns steps (now (needs .entry)) (now (sets .entry)) w (now (able .entry)) (now (able .exit)) ⌝ ∗ ⌜ length (now (able .exit)) ≡ words * limits .steps ⌝ }
 {
+    let row = w * Model::STEPS;
     let mut s: usize = 0;
     while s < steps {
-        kept[s] = kept_mask(columns, s, lands);
+        able[row + s] = able_word(columns, s, w, needs, sets);
         s += 1;
     }
 }
 
-// In which columns every block is apart from block b.
-fn fill_apart(
+// The table of blocks that can take a step: a row for each word of blocks.
+fn fill_able(
     columns: usize,
-    count: usize,
+    steps: usize,
+    used: usize,
+    needs: &[u32; Model::STEPS * Model::COLUMNS],
+    sets: &[u32; Model::BLOCKS * Model::COLUMNS],
+    able: &mut [u32; WORDS * Model::STEPS],
+)
+    requires { ⌜ (columns ≤ limits .columns) × (steps ≤ limits .steps) × (used ≤ words) × (length (now able) ≡ words * limits .steps) ⌝ }
+    ensures { λ _. ⌜ Able columns steps (now (needs .entry)) (now (sets .entry)) used (now (able .exit)) ⌝ }
+{
+    let mut w: usize = 0;
+    while w < used {
+        fill_row(columns, steps, w, needs, sets, able);
+        w += 1;
+    }
+}
+
+// The blocks of word w that meet a set in column j, as a mask.
+fn meet_word(w: usize, j: usize, set: u32, sets: &[u32; Model::BLOCKS * Model::COLUMNS]) -> u32
+    requires { ⌜ (w < words) × (j < limits .columns) ⌝ }
+    ensures { λ r. ⌜ r ≡ wordOf (meetsIn (now (sets .entry)) set j) w ⌝ }
+{
+    let mut v: u32 = 0;
+    let mut i: usize = 0;
+    while i < WORD {
+        let at = (w * WORD + i) * Model::COLUMNS + j;
+        v += bit_if(sets[at] & set != 0, i);
+        i += 1;
+    }
+    v
+}
+
+// The row of column j in the table of blocks that meet a set.
+fn fill_column(
+    used: usize,
+    j: usize,
+    set: u32,
+    sets: &[u32; Model::BLOCKS * Model::COLUMNS],
+    meets: &mut [u32; Model::COLUMNS * WORDS],
+)
+    requires { ⌜ (used ≤ words) × (j < limits .columns) × (length (now meets) ≡ limits .columns * words) ⌝ }
+    ensures { λ _. ⌜ RowMet used (now (sets .entry)) j set (now (meets .entry)) (now (meets .exit)) ⌝ ∗ ⌜ length (now (meets .exit)) ≡ limits .columns * words ⌝ }
+{
+    let row = j * WORDS;
+    let mut w: usize = 0;
+    while w < used {
+        meets[row + w] = meet_word(w, j, set, sets);
+        w += 1;
+    }
+}
+
+// The same, where the row is that of another set: nothing is done where that is the same.
+fn renew_column(
+    used: usize,
+    j: usize,
+    old: u32,
+    set: u32,
+    sets: &[u32; Model::BLOCKS * Model::COLUMNS],
+    meets: &mut [u32; Model::COLUMNS * WORDS],
+)
+    requires { ⌜ (used ≤ words) × (j < limits .columns) × (length (now meets) ≡ limits .columns * words) ⌝ ∗ ⌜ RowMet used (now sets) j old (now meets) (now meets) ⌝ }
+    ensures { λ _. ⌜ RowMet used (now (sets .entry)) j set (now (meets .entry)) (now (meets .exit)) ⌝ ∗ ⌜ length (now (meets .exit)) ≡ limits .columns * words ⌝ }
+{
+    if old == set {
+        return;
+    }
+    fill_column(used, j, set, sets, meets);
+}
+
+// Which blocks meet block b in each column. The rows stand for the sets that are held.
+fn fill_meets(
+    columns: usize,
+    used: usize,
     b: usize,
     sets: &[u32; Model::BLOCKS * Model::COLUMNS],
-    apart: &mut [u32; Model::BLOCKS],
+    held: &mut [u32; Model::COLUMNS],
+    meets: &mut [u32; Model::COLUMNS * WORDS],
 )
-    requires { ⌜ (columns ≤ limits .columns) × (count ≤ limits .blocks) × (b < count) × (length (now apart) ≡ limits .blocks) ⌝ }
-    ensures { λ _. ⌜ Apart columns count (now (sets .entry)) b (now (apart .exit)) ⌝ ∗ ⌜ length (now (apart .exit)) ≡ limits .blocks ⌝ }
+    requires { ⌜ (columns ≤ limits .columns) × (used ≤ words) × (b < limits .blocks) × (length (now held) ≡ limits .columns) × (length (now meets) ≡ limits .columns * words) ⌝ ∗ ⌜ Met columns used (now sets) (heldIn (now held)) (now meets) ⌝ }
+    ensures { λ _. ⌜ Met columns used (now (sets .entry)) (heldIn (now (held .exit))) (now (meets .exit)) ⌝ ∗ ⌜ Met columns used (now (sets .entry)) (past (now (sets .entry)) (rowOf b)) (now (meets .exit)) ⌝ ∗ ⌜ (length (now (held .exit)) ≡ limits .columns) × (length (now (meets .exit)) ≡ limits .columns * words) ⌝ }
 {
-    let mut a: usize = 0;
-    while a < count {
-        apart[a] = apart_mask(columns, b, a, sets);
-        a += 1;
+    let rb = b * Model::COLUMNS;
+    let mut j: usize = 0;
+    while j < columns {
+        let set = sets[rb + j];
+        renew_column(used, j, held[j], set, sets, meets);
+        held[j] = set;
+        j += 1;
     }
 }
 
-// The row of group g in the table of steps that can be taken.
-fn fill_row(
-    columns: usize,
-    count: usize,
-    g: usize,
-    needs: &[u32; Model::STEPS * Model::COLUMNS],
-    sets: &[u32; Model::BLOCKS * Model::COLUMNS],
-    takes: &mut [u32; 4 * Model::BLOCKS],
-)
-    requires { ⌜ (columns ≤ limits .columns) × (count ≤ limits .blocks) × (g < 4) × (length (now takes) ≡ 4 * limits .blocks) ⌝ }
-    ensures { λ _. ⌜ RowTaken columns count (now (needs .entry)) (now (sets .entry)) g (now (takes .entry)) (now (takes .exit)) ⌝ ∗ ⌜ length (now (takes .exit)) ≡ 4 * limits .blocks ⌝ }
+// Whether a block is there and not settled.
+fn is_open(count: usize, a: usize, done: &[u8; Model::BLOCKS]) -> bool
+    requires { ⌜ a < limits .blocks ⌝ }
+    ensures { λ r. ⌜ r ≡ openIn count (now (done .entry)) a ⌝ }
 {
-    let row = g * Model::BLOCKS;
-    let mut a: usize = 0;
-    while a < count {
-        takes[row + a] = take_word(columns, g, a, needs, sets);
-        a += 1;
+    if count <= a {
+        return false;
     }
+    done[a] == 0
 }
 
-// The table of steps that can be taken: a row for each group of 32 steps.
-fn fill_takes(
-    columns: usize,
-    count: usize,
-    groups: usize,
-    needs: &[u32; Model::STEPS * Model::COLUMNS],
-    sets: &[u32; Model::BLOCKS * Model::COLUMNS],
-    takes: &mut [u32; 4 * Model::BLOCKS],
-)
-    requires { ⌜ (columns ≤ limits .columns) × (count ≤ limits .blocks) × (groups ≤ 4) × (length (now takes) ≡ 4 * limits .blocks) ⌝ }
-    ensures { λ _. ⌜ Taken columns count (now (needs .entry)) (now (sets .entry)) groups (now (takes .exit)) ⌝ }
+// The blocks of word w that are not settled, as a mask.
+fn open_word(count: usize, w: usize, done: &[u8; Model::BLOCKS]) -> u32
+    requires { ⌜ w < words ⌝ }
+    ensures { λ r. ⌜ r ≡ wordOf (openIn count (now (done .entry))) w ⌝ }
 {
-    let mut g: usize = 0;
-    while g < groups {
-        fill_row(columns, count, g, needs, sets, takes);
-        g += 1;
+    let mut v: u32 = 0;
+    let mut i: usize = 0;
+    while i < WORD {
+        v += bit_if(is_open(count, w * WORD + i, done), i);
+        i += 1;
+    }
+    v
+}
+
+// The blocks that are not settled.
+fn fill_open(count: usize, used: usize, done: &[u8; Model::BLOCKS], left: &mut [u32; WORDS])
+    requires { ⌜ (used ≤ words) × (length (now left) ≡ words) ⌝ }
+    ensures { λ _. ⌜ Opened used (openIn count (now (done .entry))) (now (left .exit)) ⌝ ∗ ⌜ length (now (left .exit)) ≡ words ⌝ }
+{
+    let mut w: usize = 0;
+    while w < used {
+        left[w] = open_word(count, w, done);
+        w += 1;
     }
 }
 
@@ -230,63 +312,114 @@ pub fn weigh(cost: u16) -> u64
     (cost as u64) * 65536 + 1
 }
 
-// The test of an arc by its two masks: the step's bit, and the kept columns in which the blocks are apart.
-fn told(bit: u32, apart: u32) -> bool
-    ensures { λ r. ⌜ r ≡ (not (eqb bit 0) && eqb apart 0) ⌝ }
+// The blocks of a mask that meet the settled block in a column, if the step keeps it.
+fn kept_part(v: u32, land: u32, meet: u32) -> u32
+    ensures { λ r. ⌜ r ≡ keptPart v land meet ⌝ }
 {
-    if bit == 0 {
-        return false;
+    if land == 0 {
+        return v & meet;
     }
-    apart == 0
+    v
 }
 
-// Gives the value k to each block that has a greater one, from which step s can be taken and that is not apart in a kept column.
-fn sweep(
-    count: usize,
+// The blocks of a mask that meet the settled block in every column that step s keeps.
+fn kept_word(
+    columns: usize,
     s: usize,
-    k: u64,
-    kept: u32,
-    apart: &[u32; Model::BLOCKS],
-    takes: &[u32; 4 * Model::BLOCKS],
-    dist: &mut [u64; Model::BLOCKS],
-)
-    requires { ⌜ (count ≤ limits .blocks) × (s < limits .steps) × (length (now dist) ≡ limits .blocks) ⌝ }
-    ensures { λ _. ⌜ Lowered (told (now (takes .entry)) s kept (now (apart .entry))) k count (now (dist .entry)) (now (dist .exit)) ⌝ ∗ ⌜ length (now (dist .exit)) ≡ limits .blocks ⌝ }
+    w: usize,
+    first: u32,
+    lands: &[u32; Model::STEPS * Model::COLUMNS],
+    meets: &[u32; Model::COLUMNS * WORDS],
+) -> u32
+    requires { ⌜ (columns ≤ limits .columns) × (s < limits .steps) × (w < words) ⌝ }
+    ensures { λ r. ⌜ r ≡ keptWord (now (lands .entry)) (now (meets .entry)) s w first columns ⌝ }
 {
-    let row = s / 32 * Model::BLOCKS;
-    let bit = bit_if(true, s % 32);
-    let mut a: usize = 0;
-    while a < count {
-        if k < dist[a] {
-            if told(takes[row + a] & bit, kept & apart[a]) {
-                dist[a] = k;
+    let rs = s * Model::COLUMNS;
+    let mut v = first;
+    let mut j: usize = 0;
+    while j < columns {
+        if v == 0 {
+            return 0;
+        }
+        v = kept_part(v, lands[rs + j], meets[j * WORDS + w]);
+        j += 1;
+    }
+    v
+}
+
+// Whether bit i of a mask is 1.
+fn has_bit(v: u32, i: usize) -> bool
+    requires { ⌜ i < 32 ⌝ }
+    ensures { λ r. ⌜ r ≡ bitAt v i ⌝ }
+{
+    v & bit_if(true, i) != 0
+}
+
+// Gives the value k to each block of a mask of word w that has a greater one.
+fn lower_word(w: usize, v: u32, k: u64, dist: &mut [u64; Model::BLOCKS])
+    requires { ⌜ (w < words) × (length (now dist) ≡ limits .blocks) ⌝ }
+    ensures { λ _. ⌜ Lowered (inWord w v) k (w * word + word) (now (dist .entry)) (now (dist .exit)) ⌝ ∗ ⌜ length (now (dist .exit)) ≡ limits .blocks ⌝ }
+{
+    if v == 0 {
+        return;
+    }
+    let row = w * WORD;
+    let mut i: usize = 0;
+    while i < WORD {
+        if has_bit(v, i) {
+            if k < dist[row + i] {
+                dist[row + i] = k;
             }
         }
-        a += 1;
+        i += 1;
     }
 }
 
-// Gives the value k to each block that has a greater one and from which step s leads to block b.
+// Gives the value k to each open block that has a greater one, from which step s can be taken and that meets the settled block in every kept column.
+fn sweep(
+    columns: usize,
+    used: usize,
+    s: usize,
+    k: u64,
+    lands: &[u32; Model::STEPS * Model::COLUMNS],
+    able: &[u32; WORDS * Model::STEPS],
+    meets: &[u32; Model::COLUMNS * WORDS],
+    left: &[u32; WORDS],
+    dist: &mut [u64; Model::BLOCKS],
+)
+    requires { ⌜ (columns ≤ limits .columns) × (used ≤ words) × (s < limits .steps) × (length (now dist) ≡ limits .blocks) ⌝ }
+    ensures { λ _. ⌜ Lowered (told columns (now (lands .entry)) (now (able .entry)) (now (meets .entry)) (now (left .entry)) s) k (used * word) (now (dist .entry)) (now (dist .exit)) ⌝ ∗ ⌜ length (now (dist .exit)) ≡ limits .blocks ⌝ }
+{
+    let mut w: usize = 0;
+    while w < used {
+        let first = able[w * Model::STEPS + s] & left[w];
+        let v = kept_word(columns, s, w, first, lands, meets);
+        lower_word(w, v, k, dist);
+        w += 1;
+    }
+}
+
+// Gives the value k to each open block that has a greater one and from which step s leads to block b.
 fn lower(
     columns: usize,
-    count: usize,
+    used: usize,
     s: usize,
     b: usize,
     k: u64,
-    kept: u32,
     lands: &[u32; Model::STEPS * Model::COLUMNS],
     sets: &[u32; Model::BLOCKS * Model::COLUMNS],
-    apart: &[u32; Model::BLOCKS],
-    takes: &[u32; 4 * Model::BLOCKS],
+    able: &[u32; WORDS * Model::STEPS],
+    meets: &[u32; Model::COLUMNS * WORDS],
+    left: &[u32; WORDS],
     dist: &mut [u64; Model::BLOCKS],
 )
-    requires { ⌜ (columns ≤ limits .columns) × (count ≤ limits .blocks) × (s < limits .steps) × (b < count) × (length (now dist) ≡ limits .blocks) ⌝ }
-    ensures { λ _. ⌜ Lowered (toldIn columns (now (lands .entry)) (now (sets .entry)) (now (takes .entry)) s b kept (now (apart .entry))) k count (now (dist .entry)) (now (dist .exit)) ⌝ ∗ ⌜ length (now (dist .exit)) ≡ limits .blocks ⌝ }
+    requires { ⌜ (columns ≤ limits .columns) × (used ≤ words) × (s < limits .steps) × (b < limits .blocks) × (length (now dist) ≡ limits .blocks) ⌝ }
+    ensures { λ _. ⌜ Lowered (toldIn columns (now (lands .entry)) (now (sets .entry)) (now (able .entry)) (now (meets .entry)) (now (left .entry)) s b) k (used * word) (now (dist .entry)) (now (dist .exit)) ⌝ ∗ ⌜ length (now (dist .exit)) ≡ limits .blocks ⌝ }
 {
     if !fits_in(columns, s, b, lands, sets) {
         return;
     }
-    sweep(count, s, k, kept, apart, takes, dist);
+    sweep(columns, used, s, k, lands, able, meets, left, dist);
 }
 
 // Tries every step into block b, with the tables.
@@ -294,36 +427,25 @@ fn tries(
     columns: usize,
     count: usize,
     steps: usize,
+    used: usize,
     b: usize,
     needs: &[u32; Model::STEPS * Model::COLUMNS],
     lands: &[u32; Model::STEPS * Model::COLUMNS],
     costs: &[u16],
     sets: &[u32; Model::BLOCKS * Model::COLUMNS],
-    kept: &[u32; Model::STEPS],
-    takes: &[u32; 4 * Model::BLOCKS],
-    apart: &[u32; Model::BLOCKS],
+    able: &[u32; WORDS * Model::STEPS],
+    meets: &[u32; Model::COLUMNS * WORDS],
+    left: &[u32; WORDS],
     dist: &mut [u64; Model::BLOCKS],
 )
-    requires { ⌜ (columns ≤ limits .columns) × (count ≤ limits .blocks) × (steps ≤ limits .steps) × (steps ≤ length (now costs)) × (b < count) × (length (now dist) ≡ limits .blocks) × (getD (now dist) b 0 < noWay) ⌝ ∗ ⌜ Kept columns steps (now lands) (now kept) ⌝ ∗ ⌜ Taken columns count (now needs) (now sets) ((steps + 31) / 32) (now takes) ⌝ ∗ ⌜ Apart columns count (now sets) b (now apart) ⌝ }
+    requires { ⌜ (columns ≤ limits .columns) × (count ≤ limits .blocks) × (steps ≤ limits .steps) × (used ≡ wordsFor count) × (steps ≤ length (now costs)) × (b < count) × (length (now dist) ≡ limits .blocks) × (getD (now dist) b 0 < noWay) ⌝ ∗ ⌜ Able columns steps (now needs) (now sets) used (now able) ⌝ ∗ ⌜ Met columns used (now sets) (past (now sets) (rowOf b)) (now meets) ⌝ ∗ ⌜ Open count used (now dist) b (now left) ⌝ }
     ensures { λ _. ⌜ Relaxed count (Arc columns count steps (now (needs .entry)) (now (lands .entry)) (now (sets .entry))) (costIn (now (costs .entry))) (now (dist .entry)) (now (dist .exit)) b ⌝ ∗ ⌜ length (now (dist .exit)) ≡ limits .blocks ⌝ }
 {
     let base = dist[b];
     let mut s: usize = 0;
     while s < steps {
         let k = base + weigh(costs[s]);
-        lower(
-            columns,
-            count,
-            s,
-            b,
-            k,
-            kept[s],
-            lands,
-            sets,
-            apart,
-            takes,
-            dist,
-        );
+        lower(columns, used, s, b, k, lands, sets, able, meets, left, dist);
         s += 1;
     }
 }
@@ -333,32 +455,37 @@ fn relax(
     columns: usize,
     count: usize,
     steps: usize,
+    used: usize,
     b: usize,
     needs: &[u32; Model::STEPS * Model::COLUMNS],
     lands: &[u32; Model::STEPS * Model::COLUMNS],
     costs: &[u16],
     sets: &[u32; Model::BLOCKS * Model::COLUMNS],
-    kept: &[u32; Model::STEPS],
-    takes: &[u32; 4 * Model::BLOCKS],
-    apart: &mut [u32; Model::BLOCKS],
+    able: &[u32; WORDS * Model::STEPS],
+    done: &[u8; Model::BLOCKS],
+    held: &mut [u32; Model::COLUMNS],
+    meets: &mut [u32; Model::COLUMNS * WORDS],
+    left: &mut [u32; WORDS],
     dist: &mut [u64; Model::BLOCKS],
 )
-    requires { ⌜ (columns ≤ limits .columns) × (count ≤ limits .blocks) × (steps ≤ limits .steps) × (steps ≤ length (now costs)) × (b < count) × (length (now dist) ≡ limits .blocks) × (getD (now dist) b 0 < noWay) × (length (now apart) ≡ limits .blocks) ⌝ ∗ ⌜ Kept columns steps (now lands) (now kept) ⌝ ∗ ⌜ Taken columns count (now needs) (now sets) ((steps + 31) / 32) (now takes) ⌝ }
-    ensures { λ _. ⌜ Relaxed count (Arc columns count steps (now (needs .entry)) (now (lands .entry)) (now (sets .entry))) (costIn (now (costs .entry))) (now (dist .entry)) (now (dist .exit)) b ⌝ ∗ ⌜ (length (now (dist .exit)) ≡ limits .blocks) × (length (now (apart .exit)) ≡ limits .blocks) ⌝ }
+    requires { ⌜ (columns ≤ limits .columns) × (count ≤ limits .blocks) × (steps ≤ limits .steps) × (used ≡ wordsFor count) × (steps ≤ length (now costs)) × (b < count) × (length (now dist) ≡ limits .blocks) × (getD (now dist) b 0 < noWay) × (length (now held) ≡ limits .columns) × (length (now meets) ≡ limits .columns * words) × (length (now left) ≡ words) ⌝ ∗ ⌜ Able columns steps (now needs) (now sets) used (now able) ⌝ ∗ ⌜ Met columns used (now sets) (heldIn (now held)) (now meets) ⌝ ∗ ⌜ Settled count (now dist) (now done) b ⌝ }
+    ensures { λ _. ⌜ Relaxed count (Arc columns count steps (now (needs .entry)) (now (lands .entry)) (now (sets .entry))) (costIn (now (costs .entry))) (now (dist .entry)) (now (dist .exit)) b ⌝ ∗ ⌜ Met columns used (now (sets .entry)) (heldIn (now (held .exit))) (now (meets .exit)) ⌝ ∗ ⌜ (length (now (dist .exit)) ≡ limits .blocks) × (length (now (held .exit)) ≡ limits .columns) × (length (now (meets .exit)) ≡ limits .columns * words) × (length (now (left .exit)) ≡ words) ⌝ }
 {
-    fill_apart(columns, count, b, sets, apart);
+    fill_open(count, used, done, left);
+    fill_meets(columns, used, b, sets, held, meets);
     tries(
         columns,
         count,
         steps,
+        used,
         b,
         needs,
         lands,
         costs,
         sets,
-        kept,
-        takes,
-        apart,
+        able,
+        meets,
+        left,
         dist,
     );
 }
@@ -368,18 +495,20 @@ fn settle(
     columns: usize,
     count: usize,
     steps: usize,
+    used: usize,
     needs: &[u32; Model::STEPS * Model::COLUMNS],
     lands: &[u32; Model::STEPS * Model::COLUMNS],
     goals: &[u32; Model::COLUMNS],
     costs: &[u16],
     sets: &[u32; Model::BLOCKS * Model::COLUMNS],
-    kept: &[u32; Model::STEPS],
-    takes: &[u32; 4 * Model::BLOCKS],
-    apart: &mut [u32; Model::BLOCKS],
+    able: &[u32; WORDS * Model::STEPS],
+    held: &mut [u32; Model::COLUMNS],
+    meets: &mut [u32; Model::COLUMNS * WORDS],
+    left: &mut [u32; WORDS],
     done: &mut [u8; Model::BLOCKS],
     dist: &mut [u64; Model::BLOCKS],
 )
-    requires { ⌜ (columns ≤ limits .columns) × (count ≤ limits .blocks) × (steps ≤ limits .steps) × (steps ≤ length (now costs)) × (length (now dist) ≡ limits .blocks) × (length (now apart) ≡ limits .blocks) × (length (now done) ≡ limits .blocks) ⌝ ∗ ⌜ Kept columns steps (now lands) (now kept) ⌝ ∗ ⌜ Taken columns count (now needs) (now sets) ((steps + 31) / 32) (now takes) ⌝ ∗ ⌜ Started (goalBy columns (now goals) (now sets)) count (now dist) (now dist) ⌝ ∗ ⌜ ((a : ℕ) → getD (now done) a 0 ≡ 0) ⌝ }
+    requires { ⌜ (columns ≤ limits .columns) × (count ≤ limits .blocks) × (steps ≤ limits .steps) × (used ≡ wordsFor count) × (steps ≤ length (now costs)) × (length (now dist) ≡ limits .blocks) × (length (now held) ≡ limits .columns) × (length (now meets) ≡ limits .columns * words) × (length (now left) ≡ words) × (length (now done) ≡ limits .blocks) ⌝ ∗ ⌜ Able columns steps (now needs) (now sets) used (now able) ⌝ ∗ ⌜ Met columns used (now sets) (heldIn (now held)) (now meets) ⌝ ∗ ⌜ Started (goalBy columns (now goals) (now sets)) count (now dist) (now dist) ⌝ ∗ ⌜ ((a : ℕ) → getD (now done) a 0 ≡ 0) ⌝ }
     ensures { λ _. ⌜ AllDist (Arc columns count steps (now (needs .entry)) (now (lands .entry)) (now (sets .entry))) (GoalIn columns (now (goals .entry)) (now (sets .entry))) (costIn (now (costs .entry))) count (now (dist .entry)) (now (dist .exit)) ⌝ ∗ ⌜ length (now (dist .exit)) ≡ limits .blocks ⌝ }
 {
     loop {
@@ -392,14 +521,17 @@ fn settle(
             columns,
             count,
             steps,
+            used,
             b,
             needs,
             lands,
             costs,
             sets,
-            kept,
-            takes,
-            apart,
+            able,
+            done,
+            held,
+            meets,
+            left,
             dist,
         );
     }
@@ -420,25 +552,28 @@ pub fn fill_distances(
     requires { ⌜ (columns ≤ limits .columns) × (steps ≤ limits .steps) × (steps ≤ length (now costs)) × (count ≤ limits .blocks) × (length (now dist) ≡ limits .blocks) ⌝ }
     ensures { λ _. ⌜ ((t : Task) → Tables t columns steps (now (needs .entry)) (now (lands .entry)) (now (goals .entry)) (now (costs .entry)) → now (dist .exit) ≡ codedOver t (blocksIn columns count (now (sets .entry))) count (now (dist .entry))) ⌝ ∗ ⌜ length (now (dist .exit)) ≡ limits .blocks ⌝ }
 {
-    let mut kept = [0u32; Model::STEPS];
-    let mut takes = [0u32; 4 * Model::BLOCKS];
-    let mut apart = [0u32; Model::BLOCKS];
+    let mut able = [0u32; WORDS * Model::STEPS];
+    let mut held = [0u32; Model::COLUMNS];
+    let mut meets = [0u32; Model::COLUMNS * WORDS];
+    let mut left = [0u32; WORDS];
     let mut done = [0u8; Model::BLOCKS];
-    fill_kept(columns, steps, lands, &mut kept);
-    fill_takes(columns, count, (steps + 31) / 32, needs, sets, &mut takes);
+    let used = (count + (WORD - 1)) / WORD;
+    fill_able(columns, steps, used, needs, sets, &mut able);
     start(columns, count, goals, sets, dist);
     settle(
         columns,
         count,
         steps,
+        used,
         needs,
         lands,
         goals,
         costs,
         sets,
-        &kept,
-        &takes,
-        &mut apart,
+        &able,
+        &mut held,
+        &mut meets,
+        &mut left,
         &mut done,
         dist,
     );

@@ -1,25 +1,33 @@
+use Rattle.distances.proofs.WordLaws.{open-made}
 use borrow.Author.Needs.{needs}
 use Rattle.distances.proofs.relax.Statement.{statement}
 use Rattle.distances.proofs.relax.Tie as tie
 use Rattle.distances.proofs.relax.Reads as reads
 use Rattle.distances.proofs.relax.Lts as lts
-use Rattle.distances.proofs.fill_apart.Reads as fill-apart-reads
+use Rattle.distances.proofs.fill_meets.Reads as fill-meets-reads
+use Rattle.distances.proofs.fill_open.Reads as fill-open-reads
 use Rattle.distances.proofs.tries.Reads as tries-reads
 
--- src/lib.rt:344:5
-fill-apart-requires : tie.Need-fill-apart-requires
-fill-apart-requires c κs = search needs
+-- src/lib.rt:472:5
+fill-open-requires : tie.Need-fill-open-requires
+fill-open-requires c κs = search needs
 
--- src/lib.rt:345:5
+-- src/lib.rt:473:5
+fill-meets-requires : tie.Need-fill-meets-requires
+fill-meets-requires c κs = search needs
+
+-- src/lib.rt:474:5
 tries-requires : tie.Need-tries-requires
 tries-requires c κs =
-    let p = c .before .before .before .before .before .pre in
+    let p = c .before .before .before .before .before .before .before .before .before .pre in
     let q = p .0 in
-    ((q .0, q .1, q .2, q .3, q .4, q .5, q .6), (p .1 .0, (p .1 .1, c .before .before .fill-apart .ensures .0)))
+    ((q .0, q .1, q .2, q .3, q .4, q .5, q .6, q .7), (p .1 .0, (c .before .before .before .fill-meets .ensures .1 .0, open-made _ _ _ _ _ _ (c .before .before .before .before .before .before .fill-open .ensures .0) (p .1 .1 .1))))
 
--- src/lib.rt:327:1
+-- src/lib.rt:452:1
 returns : tie.Need-returns
-returns c = (c .tries .ensures .0, (c .tries .ensures .1, c .before .before .before .fill-apart .ensures .1))
+returns c =
+    let m = c .before .before .before .before .fill-meets .ensures in
+    (c .tries .ensures .0, (m .0, (c .tries .ensures .1, m .1 .1 .0, m .1 .1 .1, c .before .before .before .before .before .before .before .fill-open .ensures .1)))
 
 pub relax-spec : {M : Type 1} → statement M
-relax-spec = tie.close (tie.spec fill-apart-requires tries-requires returns)
+relax-spec = tie.close (tie.spec fill-open-requires fill-meets-requires tries-requires returns)

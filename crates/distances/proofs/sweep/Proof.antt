@@ -1,105 +1,84 @@
-use mathlib.Core.Path.{_≡_, sym, _∙_, ap}
-use mathlib.Core.Bool.{true, false, false≢true}
-use mathlib.Core.Logic.{⊎-elim}
-use Prim.Native.Nat.{_≤_, _-_, _^_, _%_}
+use mathlib.Core.Path.{_≡_, refl, sym, _∙_, ap}
+use Prim.Native.Nat.{ℕ, _≤_, _<_, _-_, _+_, _*_, _^_}
 use native.Mathlib.Omega.{arith}
-use lib.ListN.{length, length-set}
+use lib.ListN.{length}
 use Rattle.distances.specs.Turns.{Lowered}
-use Rattle.distances.specs.Arcs.{told}
-use Rattle.distances.proofs.LowerLaws.{lowered-none, lowered-skip, lowered-set, lowered-end}
-use Rattle.distances.proofs.ArcLaws.{told-is}
+use Rattle.distances.specs.Words.{told}
+use Rattle.distances.proofs.ArcLaws.{told-word}
+use Rattle.distances.proofs.LowerLaws.{lowered-none, lowered-end, word-more}
 use borrow.Author.Needs.{needs}
 use Rattle.distances.proofs.sweep.Statement.{statement}
 use Rattle.distances.proofs.sweep.Tie as tie
 use Rattle.distances.proofs.sweep.Reads as reads
 use Rattle.distances.proofs.sweep.Lts as lts
-use Rattle.distances.proofs.bit_if.Reads as bit-if-reads
-use Rattle.distances.proofs.told.Reads as told-reads
+use Rattle.distances.proofs.kept_word.Reads as kept-word-reads
+use Rattle.distances.proofs.lower_word.Reads as lower-word-reads
 
 abbrev Inv-loop : tie.InvT-loop
-Inv-loop count s k kept apart takes dist₀ row bit a₀ dist a = (a ≤ count) × (length dist ≡ 256) × (bit ≡ 2 ^ (s % 32)) × Lowered (told takes s kept apart) k a dist₀ dist
+Inv-loop columns used s k lands able meets left dist₀ w₀ dist w = (w ≤ used) × (length dist ≡ 256) × Lowered (told columns lands able meets left s) k (w * 32) dist₀ dist
 
 abbrev μ-loop : tie.MeasureT-loop
-μ-loop count s k kept apart takes dist₀ row bit a₀ dist a = count - a
+μ-loop columns used s k lands able meets left dist₀ w₀ dist w = used - w
 
--- src/lib.rt:251:15
-mul-row : tie.Need-mul-row Inv-loop μ-loop
-mul-row c = search needs
-
--- src/lib.rt:252:9
-bit-if-requires : tie.Need-bit-if-requires Inv-loop μ-loop
-bit-if-requires c κs = search needs
-
--- src/lib.rt:254:5
+-- src/lib.rt:392:5
 loop-holds : tie.Need-loop-holds Inv-loop μ-loop
-loop-holds c = (omega arith, omega arith, c .bit-if .ensures, lowered-none _ _ _)
+loop-holds c = (omega arith, omega arith, lowered-end _ _ _ (lowered-none _ _ _) (omega arith))
 
--- src/lib.rt:255:16
-mul-if1 : tie.Need-mul-if1 Inv-loop μ-loop
-mul-if1 c = search needs
+-- src/lib.rt:393:26
+mul-first : tie.Need-mul-first Inv-loop μ-loop
+mul-first c = search needs
 
--- src/lib.rt:255:16
-element-copy-out-if1 : tie.Need-element-copy-out-if1 Inv-loop μ-loop
-element-copy-out-if1 c = search needs
+-- src/lib.rt:393:26
+add-first : tie.Need-add-first Inv-loop μ-loop
+add-first c = search needs
 
--- src/lib.rt:256:27
-add-told : tie.Need-add-told Inv-loop μ-loop
-add-told c = search needs
+-- src/lib.rt:393:21
+mul-first-2 : tie.Need-mul-first-2 Inv-loop μ-loop
+mul-first-2 c = search needs
 
--- src/lib.rt:256:21
-mul-told : tie.Need-mul-told Inv-loop μ-loop
-mul-told c = search needs
+-- src/lib.rt:393:21
+element-copy-out-first : tie.Need-element-copy-out-first Inv-loop μ-loop
+element-copy-out-first c = search needs
 
--- src/lib.rt:256:21
-element-copy-out-told : tie.Need-element-copy-out-told Inv-loop μ-loop
-element-copy-out-told c = search needs
+-- src/lib.rt:393:50
+mul-first-3 : tie.Need-mul-first-3 Inv-loop μ-loop
+mul-first-3 c = search needs
 
--- src/lib.rt:256:50
-mul-told-2 : tie.Need-mul-told-2 Inv-loop μ-loop
-mul-told-2 c = search needs
+-- src/lib.rt:393:50
+element-copy-out-first-2 : tie.Need-element-copy-out-first-2 Inv-loop μ-loop
+element-copy-out-first-2 c = search needs
 
--- src/lib.rt:256:50
-element-copy-out-told-2 : tie.Need-element-copy-out-told-2 Inv-loop μ-loop
-element-copy-out-told-2 c = search needs
+-- src/lib.rt:394:13
+kept-word-requires : tie.Need-kept-word-requires Inv-loop μ-loop
+kept-word-requires c κs = search needs
 
--- src/lib.rt:256:16
-told-requires : tie.Need-told-requires Inv-loop μ-loop
-told-requires c κs = search needs
+-- src/lib.rt:395:9
+lower-word-requires : tie.Need-lower-word-requires Inv-loop μ-loop
+lower-word-requires c κs = search needs
 
--- src/lib.rt:257:17
-mul-dist : tie.Need-mul-dist Inv-loop μ-loop
-mul-dist c = search needs
+-- src/lib.rt:396:9
+add-w : tie.Need-add-w Inv-loop μ-loop
+add-w c = search needs
 
--- src/lib.rt:257:17
-element-write-dist : tie.Need-element-write-dist Inv-loop μ-loop
-element-write-dist c = search needs
-
--- src/lib.rt:260:9
-add-a : tie.Need-add-a Inv-loop μ-loop
-add-a c = search needs
-
--- src/lib.rt:254:5
+-- src/lib.rt:392:5
 loop-less : tie.Need-loop-less Inv-loop μ-loop
 loop-less c = search needs
 
--- src/lib.rt:254:5
+-- src/lib.rt:392:5
 loop-again : tie.Need-loop-again Inv-loop μ-loop
 loop-again c =
-    let i = c .before .before .before .loop .inv in
-    let g = c .before .before .before .before .before .args in
-    let a = c .before .before .before .loop .a in (
+    let l = c .before .before .before .before .before .before .loop in
+    let g = c .before .before .before .before .before .before .before .args in (
       omega arith,
-      ⊎-elim (λ w. ap length (w .5) ∙ simp length-set (i .1)) (⊎-elim (λ w. ap length (w .5) ∙ i .1) (λ w. ap length (w .1) ∙ i .1)) (c .if1 .came),
-      i .2,
-      ⊎-elim (λ w. rw (w .5) (lowered-set _ _ _ (i .3) (omega arith) (sym (told-is (g .takes .now) (g .s) (g .kept) (g .apart .now) a _ _ (i .2) (w .3 .ensures)) ∙ w .4 .taken) (w .0 .taken)))
-          (⊎-elim (λ w. rw (w .5) (lowered-skip _ _ _ (i .3) (λ e. absurd (false≢true (sym (w .4 .left) ∙ told-is (g .takes .now) (g .s) (g .kept) (g .apart .now) a _ _ (i .2) (w .3 .ensures) ∙ e)))))
-          (λ w. rw (w .1) (lowered-skip _ _ _ (i .3) (λ _. w .0 .left))))
-          (c .if1 .came),
+      c .lower-word .ensures .1,
+      word-more (l .w) _ (g .k) _ _ _ _ (l .inv .2) (c .lower-word .ensures .0) (λ i h. told-word (g .columns) (g .lands .now) (g .able .now) (g .meets .now) (g .left .now) (g .s) (l .w) _ i h (c .before .before .kept-word .ensures)),
     )
 
--- src/lib.rt:239:1
+-- src/lib.rt:377:1
 returns : tie.Need-returns Inv-loop μ-loop
-returns c = (lowered-end _ _ _ (c .before .loop .inv .3) (omega arith), c .before .loop .inv .1)
+returns c =
+    let l = c .before .loop in
+    (lowered-end _ _ _ (l .inv .2) (omega arith), l .inv .1)
 
 pub sweep-spec : {M : Type 1} → statement M
 sweep-spec =
@@ -107,20 +86,16 @@ sweep-spec =
     (tie.spec
     Inv-loop
     μ-loop
-    mul-row
-    bit-if-requires
     loop-holds
-    mul-if1
-    element-copy-out-if1
-    add-told
-    mul-told
-    element-copy-out-told
-    mul-told-2
-    element-copy-out-told-2
-    told-requires
-    mul-dist
-    element-write-dist
-    add-a
+    mul-first
+    add-first
+    mul-first-2
+    element-copy-out-first
+    mul-first-3
+    element-copy-out-first-2
+    kept-word-requires
+    lower-word-requires
+    add-w
     loop-less
     loop-again
     returns)
