@@ -473,12 +473,88 @@ fn fits_in(columns: usize, s: usize, a: usize, wants: &Wants, sets: &Sets) -> bo
     true
 }
 
-fn apart_mask(columns: usize, b: usize, a: usize, sets: &Sets) -> u32 {
-    let mut w = 0;
-    for j in 0..columns {
-        w += if sets[a * COLUMNS + j] & sets[b * COLUMNS + j] == 0 { 1 << j } else { 0 };
+// Sets of blocks stand in words of 32 bits, a bit for each block.
+const WORD: usize = 32;
+const WORDS: usize = BLOCKS / WORD;
+
+type Able = [u32; WORDS * STEPS];
+type Meets = [u32; COLUMNS * WORDS];
+
+fn bit_if(t: bool, i: usize) -> u32 {
+    if t { 1 << i } else { 0 }
+}
+
+fn need_word(w: usize, j: usize, need: u32, sets: &Sets) -> u32 {
+    let mut v = 0;
+    for i in 0..WORD {
+        v += bit_if(sets[(w * WORD + i) * COLUMNS + j] & need == need, i);
     }
-    w
+    v
+}
+
+fn with_need(v: u32, w: usize, j: usize, need: u32, sets: &Sets) -> u32 {
+    if v == 0 || need == 0 {
+        return v;
+    }
+    v & need_word(w, j, need, sets)
+}
+
+// The blocks of word w from which step s can be taken.
+fn able_word(columns: usize, s: usize, w: usize, needs: &Wants, sets: &Sets) -> u32 {
+    let mut v = u32::MAX;
+    for j in 0..columns {
+        v = with_need(v, w, j, needs[s * COLUMNS + j], sets);
+    }
+    v
+}
+
+fn fill_able(columns: usize, steps: usize, used: usize, needs: &Wants, sets: &Sets, able: &mut Able) {
+    for w in 0..used {
+        for s in 0..steps {
+            able[w * STEPS + s] = able_word(columns, s, w, needs, sets);
+        }
+    }
+}
+
+fn meet_word(w: usize, j: usize, set: u32, sets: &Sets) -> u32 {
+    let mut v = 0;
+    for i in 0..WORD {
+        v += bit_if(sets[(w * WORD + i) * COLUMNS + j] & set != 0, i);
+    }
+    v
+}
+
+fn renew_column(used: usize, j: usize, old: u32, set: u32, sets: &Sets, meets: &mut Meets) {
+    if old == set {
+        return;
+    }
+    for w in 0..used {
+        meets[j * WORDS + w] = meet_word(w, j, set, sets);
+    }
+}
+
+// Which blocks meet block b in each column. The rows stand for the sets that are held.
+fn fill_meets(columns: usize, used: usize, b: usize, sets: &Sets, held: &mut Masks, meets: &mut Meets) {
+    for j in 0..columns {
+        let set = sets[b * COLUMNS + j];
+        renew_column(used, j, held[j], set, sets, meets);
+        held[j] = set;
+    }
+}
+
+fn open_word(count: usize, w: usize, done: &[u8; BLOCKS]) -> u32 {
+    let mut v = 0;
+    for i in 0..WORD {
+        let a = w * WORD + i;
+        v += bit_if(a < count && done[a] == 0, i);
+    }
+    v
+}
+
+fn fill_open(count: usize, used: usize, done: &[u8; BLOCKS], left: &mut [u32; WORDS]) {
+    for w in 0..used {
+        left[w] = open_word(count, w, done);
+    }
 }
 
 fn nearest(count: usize, dist: &Far, done: &[u8; BLOCKS]) -> usize {
@@ -497,13 +573,42 @@ fn weigh(cost: u16) -> u64 {
     cost as u64 * 65536 + 1
 }
 
-fn sweep(count: usize, s: usize, k: u64, kept: u32, apart: &[u32; BLOCKS], takes: &[u32; 4 * BLOCKS], dist: &mut Far) {
-    let row = s / 32 * BLOCKS;
-    let bit = 1 << (s % 32);
-    for a in 0..count {
-        if k < dist[a] && takes[row + a] & bit != 0 && kept & apart[a] == 0 {
-            dist[a] = k;
+fn kept_part(v: u32, land: u32, meet: u32) -> u32 {
+    if land == 0 {
+        return v & meet;
+    }
+    v
+}
+
+// The blocks of a mask that meet the settled block in every column that step s keeps.
+fn kept_word(columns: usize, s: usize, w: usize, first: u32, lands: &Wants, meets: &Meets) -> u32 {
+    let mut v = first;
+    for j in 0..columns {
+        if v == 0 {
+            return 0;
         }
+        v = kept_part(v, lands[s * COLUMNS + j], meets[j * WORDS + w]);
+    }
+    v
+}
+
+fn lower_word(w: usize, v: u32, k: u64, dist: &mut Far) {
+    if v == 0 {
+        return;
+    }
+    for i in 0..WORD {
+        if v & 1 << i != 0 && k < dist[w * WORD + i] {
+            dist[w * WORD + i] = k;
+        }
+    }
+}
+
+fn sweep(
+    columns: usize, used: usize, s: usize, k: u64, lands: &Wants, able: &Able, meets: &Meets, left: &[u32; WORDS], dist: &mut Far,
+) {
+    for w in 0..used {
+        let first = able[w * STEPS + s] & left[w];
+        lower_word(w, kept_word(columns, s, w, first, lands, meets), k, dist);
     }
 }
 
@@ -513,24 +618,13 @@ pub fn fill_distances<W: Watch>(
     sets: &Sets, dist: &mut Far, watch: &mut W,
 ) {
     watch.enter(Part::Tables);
-    let mut kept = [0u32; STEPS];
-    let mut takes = [0u32; 4 * BLOCKS];
-    let mut apart = [0u32; BLOCKS];
-    let mut done = [0u8; BLOCKS];
-    for s in 0..steps {
-        for j in 0..columns {
-            kept[s] += if lands[s * COLUMNS + j] == 0 { 1 << j } else { 0 };
-        }
-    }
-    for g in 0..(steps + 31) / 32 {
-        for a in 0..count {
-            let mut w = 0;
-            for i in 0..32 {
-                w += if fits_in(columns, g * 32 + i, a, needs, sets) { 1 << i } else { 0 };
-            }
-            takes[g * BLOCKS + a] = w;
-        }
-    }
+    let mut able = [0; WORDS * STEPS];
+    let mut held = [0; COLUMNS];
+    let mut meets = [0; COLUMNS * WORDS];
+    let mut left = [0; WORDS];
+    let mut done = [0; BLOCKS];
+    let used = (count + (WORD - 1)) / WORD;
+    fill_able(columns, steps, used, needs, sets, &mut able);
     watch.enter(Part::Distances);
     for a in 0..count {
         dist[a] = if is_goal_block(columns, a, goals, sets) { 0 } else { NO_WAY };
@@ -541,14 +635,13 @@ pub fn fill_distances<W: Watch>(
             break;
         }
         done[b] = 1;
-        for a in 0..count {
-            apart[a] = apart_mask(columns, b, a, sets);
-        }
+        fill_open(count, used, &done, &mut left);
+        fill_meets(columns, used, b, sets, &mut held, &mut meets);
         let base = dist[b];
         for s in 0..steps {
             let k = base + weigh(costs[s]);
             if fits_in(columns, s, b, lands, sets) {
-                sweep(count, s, k, kept[s], &apart, &takes, dist);
+                sweep(columns, used, s, k, lands, &able, &meets, &left, dist);
             }
         }
     }
