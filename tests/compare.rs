@@ -1,0 +1,201 @@
+//! Compares the product's two C entries with the independent planner.
+//!
+//!     compare [SEED] [CALLS] [FIRST]
+//!
+//! First the paper's examples and one small model from end to end, then CALLS calls by SEED, from call FIRST on.
+//! Compared are the answer, every byte of every slice, and the bytes around them. A difference is printed with its
+//! seed and call; `compare SEED 1 CALL` shows that call again.
+
+mod calls;
+mod chance;
+mod damage;
+mod every;
+mod examples;
+mod judge;
+mod laws;
+mod lent;
+mod planner;
+mod product;
+mod shapes;
+mod tally;
+mod watch;
+
+use chance::Chance;
+use judge::{difference, judge, shown, Expected, Outcome};
+use planner::blocks::Cut;
+use planner::run::Answer;
+use planner::task::Model;
+use planner::NO_WAY;
+use product::{Call, Product, Seen, Slice};
+use tally::Tally;
+
+/// One comparison after the other, with what is counted on the way.
+struct Compare {
+    product: Product,
+    tally: Tally,
+    calls: u64,
+}
+
+/// A difference, said in words; the call that showed it.
+struct Difference {
+    words: String,
+    call: Call,
+}
+
+fn main() {
+    let numbers: Vec<u64> = std::env::args().skip(1).map(|word| word.parse().expect("a number")).collect();
+    let seed = numbers.first().copied().unwrap_or(1);
+    let calls = numbers.get(1).copied().unwrap_or(20_000);
+    let first = numbers.get(2).copied();
+    watch::begin(seed);
+    let mut compare = Compare { product: Product::new(), tally: Tally::default(), calls: 0 };
+    let result = match first {
+        Some(first) => compare.by_seed(seed, first, calls, calls == 1),
+        None => compare.fixed_calls().and_then(|()| compare.by_seed(seed, 0, calls, false)),
+    };
+    if let Err(difference) = result {
+        println!("compare: seed {seed}, call {}", watch::now());
+        println!("{}\n{}", difference.words, shown(&difference.call));
+        std::process::exit(1);
+    }
+    if first.is_none() && !compare.tally.enough(calls) {
+        println!("compare: some answers were met too seldom to say anything");
+        std::process::exit(1);
+    }
+    println!("compare: {} calls, 0 differences", compare.calls);
+}
+
+impl Compare {
+    fn fixed_calls(&mut self) -> Result<(), Difference> {
+        for example in examples::examples() {
+            watch::call(&example.name);
+            self.example(&example)?;
+        }
+        watch::call("lengths of 33 bits");
+        self.vast();
+        for (number, call) in every::every_call().iter().enumerate() {
+            watch::call(&format!("{number} of the small model's"));
+            self.compared(call)?;
+        }
+        Ok(())
+    }
+
+    /// The paper's own figures, beside the independent planner's.
+    fn example(&mut self, example: &examples::Example) -> Result<(), Difference> {
+        let (seen, expected) = self.compared(&example.call)?;
+        let mut good = seen.answer == example.answer;
+        for (values, slice) in example.values.iter().zip(&expected.slices) {
+            let bytes: Vec<u8> = values.iter().flat_map(|value| value.to_be_bytes()).collect();
+            // input slices have no values here
+            good &= values.is_empty() || slice.starts_with(&bytes) && slice[bytes.len()..].iter().all(|byte| *byte == 0xa5);
+        }
+        if good {
+            return Ok(());
+        }
+        let words = format!("the paper's example '{}' comes out otherwise: {:#x}", example.name, seen.answer);
+        Err(Difference { words, call: example.call.clone() })
+    }
+
+    /// Where the system gives no such memory, nothing is said.
+    fn vast(&mut self) {
+        let sheet = [0x10, 0x80, 0x02, 0x00, 0x00];
+        let beyond = 1 << 32;
+        let Some(memory) = lent::vast(beyond + 8192) else { return };
+        let answers = product::vast_calls(&sheet, memory, beyond);
+        self.calls += 2;
+        if answers != (6, planner::entries::number(1, 1, 0, 0)) {
+            println!("compare: lengths of 33 bits: {answers:?}");
+            std::process::exit(1);
+        }
+    }
+
+    fn by_seed(&mut self, seed: u64, first: u64, calls: u64, show: bool) -> Result<(), Difference> {
+        for number in first..first + calls {
+            watch::call(&number.to_string());
+            let mut chance = Chance::new(seed, number);
+            let call = calls::any_call(&mut chance);
+            if show {
+                println!("{}", shown(&call));
+            }
+            let (seen, expected) = self.compared(&call)?;
+            self.laws(&mut chance, &call, &seen, &expected)?;
+        }
+        Ok(())
+    }
+
+    fn compared(&mut self, call: &Call) -> Result<(Seen, Expected), Difference> {
+        let expected = judge(call);
+        let seen = self.product.call(call);
+        self.calls += 1;
+        if let Some(words) = difference(call, &seen, &expected) {
+            return Err(Difference { words, call: call.clone() });
+        }
+        self.tally.count(call, &expected.outcome);
+        Ok((seen, expected))
+    }
+
+    /// What the task itself says of an answer; the slices are equal by now, so that it is said of both planners.
+    fn laws(&mut self, chance: &mut Chance, call: &Call, seen: &Seen, expected: &Expected) -> Result<(), Difference> {
+        let wrong = match (&expected.outcome, call) {
+            (Outcome::Ran(model, run), Call::Run { room, .. }) => {
+                laws::wrong_run(model, u64::from(*room), run, chance.percent(10))
+            }
+            (Outcome::Asked(model, values), Call::Question { states, .. }) if chance.percent(40) => {
+                laws::wrong_estimates(model, &states.content, values)
+            }
+            _ => None,
+        };
+        if let Some(words) = wrong {
+            return Err(Difference { words, call: call.clone() });
+        }
+        if let Outcome::Ran(model, run) = &expected.outcome {
+            if model.columns() < 9 && chance.percent(25) {
+                let value = match run.answer {
+                    Answer::Plan { cost, .. } => cost,
+                    Answer::Open { estimate } => estimate,
+                    Answer::NoPlan => NO_WAY,
+                };
+                return self.ask_after(chance, model, &run_cuts(seen, run.cuts.len()), value);
+            }
+        }
+        Ok(())
+    }
+
+    /// The cuts that the product listed, asked about: the start has the run's own figure, and from a shorter list to
+    /// the whole one no state's estimate falls.
+    fn ask_after(&mut self, chance: &mut Chance, model: &Model, cuts: &[Cut], value: u64) -> Result<(), Difference> {
+        let mut states = vec![model.start.clone()];
+        states.extend((0..chance.below(20)).map(|_| shapes::random_state(chance, &model.sizes)));
+        let bytes: Vec<u8> = states.iter().flatten().map(|position| *position as u8).collect();
+        let (call, after) = self.asked(model, cuts, &bytes)?;
+        let fewer = chance.below(cuts.len() + 1);
+        let (_, before) = self.asked(model, &cuts[..fewer], &bytes)?;
+        let wrong = if after[0] != value {
+            Some(format!("the start's estimate is {}, the run's {value}", after[0]))
+        } else {
+            let fallen = before.iter().zip(&after).position(|(before, after)| before > after);
+            fallen.map(|state| format!("the estimate of state {state} falls after cut {fewer}"))
+        };
+        wrong.map_or(Ok(()), |words| Err(Difference { words, call }))
+    }
+
+    fn asked(&mut self, model: &Model, cuts: &[Cut], states: &[u8]) -> Result<(Call, Vec<u64>), Difference> {
+        let call = Call::Question {
+            model: Slice::plain(planner::sheet::write_sheet(model)),
+            cut_sheet: Slice::plain(planner::sheet::write_cut_sheet(model, cuts)),
+            states: Slice::plain(states.to_vec()),
+            estimates: Slice::plain(vec![0x77; states.len() / model.columns() * 4]),
+        };
+        let (seen, _) = self.compared(&call)?;
+        let values = seen.slices[3].chunks(4).map(|value| value.iter().fold(0, |all, byte| all * 256 + u64::from(*byte)));
+        let values = values.collect();
+        Ok((call, values))
+    }
+}
+
+/// The cuts as the product's bytes have them.
+fn run_cuts(seen: &Seen, count: usize) -> Vec<Cut> {
+    let word = |bytes: &[u8]| u32::from_be_bytes([bytes[0], bytes[1], bytes[2], bytes[3]]);
+    let values: Vec<u32> = seen.slices[1].chunks_exact(4).take(count * 3).map(word).collect();
+    examples::cuts_of(&values)
+}

@@ -1,0 +1,104 @@
+//! How often each answer was met. A comparison that never meets an answer says nothing about it.
+
+use crate::judge::Outcome;
+use crate::planner::run::{Answer, Kind};
+use crate::planner::{Part, NO_WAY};
+use crate::product::Call;
+use std::collections::BTreeMap;
+
+#[derive(Default)]
+pub struct Tally {
+    refused: BTreeMap<(&'static str, Part, u32), u64>,
+    met: BTreeMap<&'static str, u64>,
+}
+
+/// Every refusal that each entry can give, by the part that gives it.
+fn possible() -> Vec<(&'static str, Part, u32)> {
+    let mut list = Vec::new();
+    for number in 1..=6 {
+        list.push(("run", Part::Sheet, number));
+        list.push(("question", Part::Sheet, number));
+        list.push(("question", Part::Inner, number));
+    }
+    list.push(("run", Part::Room, 7));
+    list.push(("run", Part::Lists, 8));
+    list.push(("question", Part::Inner, 10));
+    list.extend([1, 2, 6, 9].map(|number| ("question", Part::Cuts, number)));
+    list.push(("question", Part::States, 11));
+    list.push(("question", Part::Lists, 8));
+    list
+}
+
+const OTHERS: [&str; 10] = [
+    "plan", "plan of no steps", "plan with a free step", "no plan", "open", "goal flaw", "need flaw", "divergence flaw",
+    "estimate", "estimate: no way",
+];
+
+impl Tally {
+    pub fn count(&mut self, call: &Call, outcome: &Outcome) {
+        let entry = if let Call::Run { .. } = call { "run" } else { "question" };
+        match outcome {
+            Outcome::Refused(refusal) => *self.refused.entry((entry, refusal.part, refusal.number)).or_default() += 1,
+            Outcome::Ran(model, run) => {
+                run.flaws.iter().for_each(|kind| self.meet(flaw_name(*kind)));
+                match &run.answer {
+                    Answer::Plan { steps, .. } => {
+                        self.meet("plan");
+                        if steps.is_empty() {
+                            self.meet("plan of no steps");
+                        }
+                        if steps.iter().any(|step| model.steps[*step].cost == 0) {
+                            self.meet("plan with a free step");
+                        }
+                    }
+                    Answer::NoPlan => self.meet("no plan"),
+                    Answer::Open { .. } => self.meet("open"),
+                }
+            }
+            Outcome::Asked(_, values) => {
+                for value in values {
+                    self.meet(if *value == NO_WAY { "estimate: no way" } else { "estimate" });
+                }
+            }
+        }
+    }
+
+    fn meet(&mut self, name: &'static str) {
+        *self.met.entry(name).or_default() += 1;
+    }
+
+    /// Prints the tables and says whether each answer was met often enough.
+    pub fn enough(&self, calls: u64) -> bool {
+        let floor = calls / 400;
+        let mut good = true;
+        for entry in ["run", "question"] {
+            println!("refusals of {entry}");
+            for number in 1..=11 {
+                let of_number = possible().into_iter().filter(|row| row.0 == entry && row.2 == number);
+                let parts: Vec<_> = of_number.map(|row| (row.1, self.refused.get(&row).copied().unwrap_or(0))).collect();
+                if parts.is_empty() {
+                    continue;
+                }
+                good &= parts.iter().all(|(_, count)| *count >= floor);
+                let total: u64 = parts.iter().map(|(_, count)| count).sum();
+                let words: Vec<String> = parts.iter().map(|(part, count)| format!("{part:?} {count}")).collect();
+                println!("  {number}: {total}  ({})", words.join(", "));
+            }
+        }
+        println!("answers");
+        for name in OTHERS {
+            let count = self.met.get(name).copied().unwrap_or(0);
+            good &= count >= floor;
+            println!("  {name}: {count}");
+        }
+        good && self.refused.keys().all(|row| possible().contains(row))
+    }
+}
+
+fn flaw_name(kind: Kind) -> &'static str {
+    match kind {
+        Kind::Goal => "goal flaw",
+        Kind::Need => "need flaw",
+        Kind::Divergence => "divergence flaw",
+    }
+}
