@@ -6,7 +6,7 @@
 //! Compared are the answer, every byte of every slice, and the bytes around them. A difference is printed with its
 //! seed and call; `compare SEED 1 CALL` shows that call again.
 
-mod calls;
+mod call;
 mod chance;
 mod damage;
 mod every;
@@ -14,19 +14,21 @@ mod examples;
 mod judge;
 mod laws;
 mod lent;
+mod making;
 mod planner;
 mod product;
 mod shapes;
 mod tally;
 mod watch;
 
+use call::{Call, Slice};
 use chance::Chance;
 use judge::{difference, judge, shown, Expected, Outcome};
+use planner::NO_WAY;
 use planner::blocks::Cut;
 use planner::run::Answer;
 use planner::task::Model;
-use planner::NO_WAY;
-use product::{Call, Product, Seen, Slice};
+use product::{Product, Seen};
 use tally::Tally;
 
 /// One comparison after the other, with what is counted on the way.
@@ -54,7 +56,7 @@ fn main() {
         None => compare.fixed_calls().and_then(|()| compare.by_seed(seed, 0, calls, false)),
     };
     if let Err(difference) = result {
-        println!("compare: seed {seed}, call {}", watch::now());
+        print!("compare: a difference in {}", watch::now());
         println!("{}\n{}", difference.words, shown(&difference.call));
         std::process::exit(1);
     }
@@ -113,7 +115,7 @@ impl Compare {
         for number in first..first + calls {
             watch::call(&number.to_string());
             let mut chance = Chance::new(seed, number);
-            let call = calls::any_call(&mut chance);
+            let call = making::any_call(&mut chance);
             if show {
                 println!("{}", shown(&call));
             }

@@ -1,12 +1,12 @@
 //! One small model, gone through from end to end: every value of every field, every length, every bit, every pair of
 //! faults, every set of faults in the order of the refusals.
 
+use crate::call::{Call, Slice};
 use crate::damage::{layout, What};
 use crate::examples::{cuts_of, small_rethread, CUTS};
 use crate::planner::bits::{pack, Field};
 use crate::planner::blocks::cut_fields;
 use crate::planner::sheet::{write_cut_part, write_sheet};
-use crate::product::{Call, Slice};
 
 /// The bytes of a question that is accepted; one is replaced at a time.
 #[derive(Clone)]

@@ -1,10 +1,10 @@
 //! The paper's marked examples, with the figures as the paper has them, and the chain with the largest distance.
 
+use crate::call::{Call, Slice};
+use crate::planner::blocks::{of_weight, Cut};
 use crate::planner::entries::number;
 use crate::planner::sheet::{write_cut_sheet, write_sheet};
 use crate::planner::task::{Model, Step};
-use crate::planner::blocks::{of_weight, Cut};
-use crate::product::{Call, Slice};
 
 /// A call, its answer, and the values that its lists begin with; what follows stays as it was.
 pub struct Example {

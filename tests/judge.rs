@@ -1,10 +1,11 @@
 //! A call as the independent planner answers it, and what differs from the product's answer.
 
+use crate::call::{Call, Slice};
+use crate::planner::Refusal;
 use crate::planner::entries::{question_entry, run_entry};
 use crate::planner::run::Run;
 use crate::planner::task::Model;
-use crate::planner::Refusal;
-use crate::product::{Call, Seen, Slice};
+use crate::product::Seen;
 
 pub enum Outcome {
     Refused(Refusal),

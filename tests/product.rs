@@ -1,6 +1,7 @@
 //! The product's two entries, called on lent memory.
 
-use crate::lent::{Lent, Side};
+use crate::call::{Call, Slice};
+use crate::lent::Lent;
 
 extern "C" {
     fn elhavir_run(
@@ -10,27 +11,6 @@ extern "C" {
         model: *const u8, model_len: usize, cut_sheet: *const u8, cut_sheet_len: usize, states: *const u8,
         states_len: usize, estimates: *mut u8, estimates_len: usize,
     ) -> u32;
-}
-
-/// A slice to lend: what it holds, where it lies, and whether a pointer of nothing goes with a length of nothing.
-#[derive(Clone, Debug)]
-pub struct Slice {
-    pub content: Vec<u8>,
-    pub side: Side,
-    pub canary: u64,
-    pub null: bool,
-}
-
-impl Slice {
-    pub fn plain(content: Vec<u8>) -> Slice {
-        Slice { content, side: Side::Back, canary: 0x6b43_a9b5, null: false }
-    }
-}
-
-#[derive(Clone, Debug)]
-pub enum Call {
-    Run { sheet: Slice, room: u32, cuts: Slice, rows: Slice },
-    Question { model: Slice, cut_sheet: Slice, states: Slice, estimates: Slice },
 }
 
 /// What came back: the answer number, and every slice as it is afterwards.

@@ -17,16 +17,29 @@ enum Costs {
 /// Mostly small, where runs are short and every state can be tried.
 pub fn any_model(chance: &mut Chance) -> Model {
     let mut model = match chance.below(1000) {
-        0..=379 => tiny(chance),
-        380..=699 => planted(chance, 4, 5, 12),
-        700..=799 => odometer(chance),
-        800..=949 => doors(chance),
-        950..=989 => planted(chance, 8, 6, 40),
-        990..=996 => large(chance),
+        0..=249 => tiny(chance),
+        250..=499 => planted(chance, 4, 5, 12),
+        500..=649 => odometer(chance),
+        650..=899 => doors(chance),
+        900..=979 => planted(chance, 8, 6, 40),
+        980..=993 => large(chance),
         _ => full_size(chance),
     };
+    if chance.percent(70) {
+        move_the_goal(chance, &mut model);
+    }
     twist(chance, &mut model);
     model
+}
+
+/// Where the start is a goal state there is little to be seen.
+fn move_the_goal(chance: &mut Chance, model: &mut Model) {
+    let wide: Vec<usize> = (0..model.columns()).filter(|column| model.sizes[*column] > 1).collect();
+    if model.is_goal(&model.start) && !wide.is_empty() {
+        let column = chance.pick(&wide);
+        let size = model.sizes[column];
+        model.goal[column] = Some((model.start[column] + chance.between(1, size - 1)) % size);
+    }
 }
 
 /// A model whose states can all be tried, for questions about order and form.
@@ -147,7 +160,7 @@ fn large(chance: &mut Chance) -> Model {
 }
 
 /// 16 columns of 32 positions and 128 steps: the largest sheet.
-fn full_size(chance: &mut Chance) -> Model {
+pub fn full_size(chance: &mut Chance) -> Model {
     let mut model = large_of(chance, vec![32; 16], 128);
     let sizes = model.sizes.clone();
     while model.steps.len() < 128 {

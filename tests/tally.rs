@@ -1,9 +1,10 @@
 //! How often each answer was met. A comparison that never meets an answer says nothing about it.
 
+use crate::call::Call;
 use crate::judge::Outcome;
-use crate::planner::run::{Answer, Kind};
+use crate::planner::run::{Answer, Kind, Run};
+use crate::planner::task::Model;
 use crate::planner::{Part, NO_WAY};
-use crate::product::Call;
 use std::collections::BTreeMap;
 
 #[derive(Default)]
@@ -29,9 +30,9 @@ fn possible() -> Vec<(&'static str, Part, u32)> {
     list
 }
 
-const OTHERS: [&str; 10] = [
-    "plan", "plan of no steps", "plan with a free step", "no plan", "open", "goal flaw", "need flaw", "divergence flaw",
-    "estimate", "estimate: no way",
+const OTHERS: [&str; 12] = [
+    "plan", "plan of no steps", "plan with a free step", "no plan", "no plan in a full room", "open", "20 cuts or more",
+    "goal flaw", "need flaw", "divergence flaw", "estimate", "estimate: no way",
 ];
 
 impl Tally {
@@ -40,26 +41,37 @@ impl Tally {
         match outcome {
             Outcome::Refused(refusal) => *self.refused.entry((entry, refusal.part, refusal.number)).or_default() += 1,
             Outcome::Ran(model, run) => {
-                run.flaws.iter().for_each(|kind| self.meet(flaw_name(*kind)));
-                match &run.answer {
-                    Answer::Plan { steps, .. } => {
-                        self.meet("plan");
-                        if steps.is_empty() {
-                            self.meet("plan of no steps");
-                        }
-                        if steps.iter().any(|step| model.steps[*step].cost == 0) {
-                            self.meet("plan with a free step");
-                        }
-                    }
-                    Answer::NoPlan => self.meet("no plan"),
-                    Answer::Open { .. } => self.meet("open"),
-                }
+                let room = if let Call::Run { room, .. } = call { *room as usize } else { 0 };
+                self.count_run(model, run, room);
             }
             Outcome::Asked(_, values) => {
                 for value in values {
                     self.meet(if *value == NO_WAY { "estimate: no way" } else { "estimate" });
                 }
             }
+        }
+    }
+
+    fn count_run(&mut self, model: &Model, run: &Run, room: usize) {
+        run.flaws.iter().for_each(|kind| self.meet(flaw_name(*kind)));
+        self.meet_if(run.cuts.len() >= 20, "20 cuts or more");
+        match &run.answer {
+            Answer::Plan { steps, .. } => {
+                self.meet("plan");
+                self.meet_if(steps.is_empty(), "plan of no steps");
+                self.meet_if(steps.iter().any(|step| model.steps[*step].cost == 0), "plan with a free step");
+            }
+            Answer::NoPlan => {
+                self.meet("no plan");
+                self.meet_if(run.cuts.len() + 1 == room, "no plan in a full room");
+            }
+            Answer::Open { .. } => self.meet("open"),
+        }
+    }
+
+    fn meet_if(&mut self, met: bool, name: &'static str) {
+        if met {
+            self.meet(name);
         }
     }
 

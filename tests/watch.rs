@@ -17,10 +17,9 @@ const FAULT: i32 = 11;
 const ALARM: i32 = 14;
 
 /// No call takes this long.
-const SECONDS: u32 = 120;
+const SECONDS: u32 = 30;
 
-/// The words to print; made before the call, since a handler may not allocate.
-static LINE: [Mutex<String>; 1] = [Mutex::new(String::new())];
+/// Where the call's name lies; put there before the call, since a handler may not allocate.
 static AT: AtomicUsize = AtomicUsize::new(0);
 static LENGTH: AtomicUsize = AtomicUsize::new(0);
 static SEED: Mutex<u64> = Mutex::new(0);
@@ -34,22 +33,26 @@ pub fn begin(seed: u64) {
 }
 
 pub fn call(name: &str) {
-    *NOW.lock().unwrap() = name.to_string();
-    let seed = *SEED.lock().unwrap();
-    let mut line = LINE[0].lock().unwrap();
-    *line = format!("compare: access outside a lent slice, or no end: seed {seed}, call {name}\n");
-    AT.store(line.as_ptr() as usize, Ordering::SeqCst);
-    LENGTH.store(line.len(), Ordering::SeqCst);
+    let mut now = NOW.lock().unwrap();
+    *now = format!("seed {}, call {name}\n", *SEED.lock().unwrap());
+    AT.store(now.as_ptr() as usize, Ordering::SeqCst);
+    LENGTH.store(now.len(), Ordering::SeqCst);
     unsafe { alarm(SECONDS) };
 }
 
+/// Seed and call, with a line feed.
 pub fn now() -> String {
     NOW.lock().unwrap().clone()
 }
 
-extern "C" fn fell(_: i32) {
+extern "C" fn fell(number: i32) {
+    say(if number == ALARM { b"compare: no end of " } else { b"compare: a fault in " });
     unsafe {
         write(1, AT.load(Ordering::SeqCst) as *const u8, LENGTH.load(Ordering::SeqCst));
         _exit(1);
     }
+}
+
+fn say(words: &[u8]) {
+    unsafe { write(1, words.as_ptr(), words.len()) };
 }

@@ -1,6 +1,7 @@
 //! Calls by chance: good ones, ones with a fault of every kind, and ones with several faults, so that the order of
 //! the refusals shows.
 
+use crate::call::{Call, Slice};
 use crate::chance::Chance;
 use crate::damage::{damaged_cut_part, damaged_sheet, differing, random_cuts};
 use crate::lent::Side;
@@ -8,7 +9,6 @@ use crate::planner::blocks::Cut;
 use crate::planner::run::run;
 use crate::planner::sheet::{write_cut_part, write_cut_sheet, write_sheet};
 use crate::planner::task::Model;
-use crate::product::{Call, Slice};
 use crate::shapes::{any_model, random_state, small_model};
 
 pub fn any_call(chance: &mut Chance) -> Call {
@@ -19,7 +19,7 @@ pub fn any_call(chance: &mut Chance) -> Call {
     }
 }
 
-fn any_run(chance: &mut Chance) -> Call {
+pub fn any_run(chance: &mut Chance) -> Call {
     if chance.percent(60) {
         let model = any_model(chance);
         let room = good_room(chance, &model);
@@ -42,9 +42,16 @@ fn good_room(chance: &mut Chance, model: &Model) -> u32 {
         6 => states.saturating_sub(1).max(1),
         7 if model.columns() < 9 || chance.percent(5) => 256,
         8 if model.columns() < 9 => 255,
+        9..=11 if model.states() < 700 => tight_room(chance, model),
         _ => chance.between(1, if model.columns() < 9 { 60 } else { 24 }),
     };
     room as u32
+}
+
+/// Just as many blocks as the run makes, or one less.
+fn tight_room(chance: &mut Chance, model: &Model) -> usize {
+    let cuts = run(model, 256).cuts.len();
+    chance.pick(&[cuts, cuts + 1, cuts + 1]).clamp(1, 256)
 }
 
 /// Room 0, 257, and numbers that would come out right if they were cut to 8 or 16 bits.
