@@ -557,6 +557,25 @@ fn fill_open(count: usize, used: usize, done: &[u8; BLOCKS], left: &mut [u32; WO
     }
 }
 
+fn is_wide(used: usize, j: usize, meets: &Meets, left: &[u32; WORDS]) -> bool {
+    for w in 0..used {
+        if meets[j * WORDS + w] & left[w] != left[w] {
+            return false;
+        }
+    }
+    true
+}
+
+// The columns in which an open block does not meet the settled block, and how many they are.
+fn fill_narrow(columns: usize, used: usize, meets: &Meets, left: &[u32; WORDS], narrow: &mut [usize; COLUMNS]) -> usize {
+    let mut few = 0;
+    for j in 0..columns {
+        narrow[few] = j;
+        few += if is_wide(used, j, meets, left) { 0 } else { 1 };
+    }
+    few
+}
+
 fn nearest(count: usize, dist: &Far, done: &[u8; BLOCKS]) -> usize {
     let (mut best, mut low) = (count, NO_WAY);
     for i in 0..count {
@@ -580,13 +599,14 @@ fn kept_part(v: u32, land: u32, meet: u32) -> u32 {
     v
 }
 
-// The blocks of a mask that meet the settled block in every column that step s keeps.
-fn kept_word(columns: usize, s: usize, w: usize, first: u32, lands: &Wants, meets: &Meets) -> u32 {
+// The blocks of a mask that meet the settled block in every narrow column that step s keeps.
+fn kept_word(few: usize, s: usize, w: usize, first: u32, narrow: &[usize; COLUMNS], lands: &Wants, meets: &Meets) -> u32 {
     let mut v = first;
-    for j in 0..columns {
+    for i in 0..few {
         if v == 0 {
             return 0;
         }
+        let j = narrow[i];
         v = kept_part(v, lands[s * COLUMNS + j], meets[j * WORDS + w]);
     }
     v
@@ -604,11 +624,12 @@ fn lower_word(w: usize, v: u32, k: u64, dist: &mut Far) {
 }
 
 fn sweep(
-    columns: usize, used: usize, s: usize, k: u64, lands: &Wants, able: &Able, meets: &Meets, left: &[u32; WORDS], dist: &mut Far,
+    few: usize, used: usize, s: usize, k: u64, narrow: &[usize; COLUMNS], lands: &Wants, able: &Able, meets: &Meets, left: &[u32; WORDS],
+    dist: &mut Far,
 ) {
     for w in 0..used {
         let first = able[w * STEPS + s] & left[w];
-        lower_word(w, kept_word(columns, s, w, first, lands, meets), k, dist);
+        lower_word(w, kept_word(few, s, w, first, narrow, lands, meets), k, dist);
     }
 }
 
@@ -622,6 +643,7 @@ pub fn fill_distances<W: Watch>(
     let mut held = [0; COLUMNS];
     let mut meets = [0; COLUMNS * WORDS];
     let mut left = [0; WORDS];
+    let mut narrow = [0; COLUMNS];
     let mut done = [0; BLOCKS];
     let used = (count + (WORD - 1)) / WORD;
     fill_able(columns, steps, used, needs, sets, &mut able);
@@ -637,11 +659,12 @@ pub fn fill_distances<W: Watch>(
         done[b] = 1;
         fill_open(count, used, &done, &mut left);
         fill_meets(columns, used, b, sets, &mut held, &mut meets);
+        let few = fill_narrow(columns, used, &meets, &left, &mut narrow);
         let base = dist[b];
         for s in 0..steps {
             let k = base + weigh(costs[s]);
             if fits_in(columns, s, b, lands, sets) {
-                sweep(columns, used, s, k, lands, &able, &meets, &left, dist);
+                sweep(few, used, s, k, &narrow, lands, &able, &meets, &left, dist);
             }
         }
     }

@@ -1,6 +1,6 @@
 -- Masks of tests, words of blocks, and tables of them.
 use mathlib.Core.Path.{_≡_, refl, sym, _∙_, ap, ap₂}
-use mathlib.Core.Logic.{⊎-elim, _≢_}
+use mathlib.Core.Logic.{_⊎_, inl, inr, ⊎-elim, _≢_}
 use mathlib.Core.Bool.{Bool, true, false, not, cond, _&&_, and-false, and-true}
 use mathlib.Core.List.{List}
 use Prim.Native.Nat.{ℕ, zero, suc, _+_, _-_, _*_, _/_, _%_, _^_, _<_, _≤_}
@@ -14,7 +14,7 @@ use lib.Bits.{bitAnd, and-block, and-mask, and-zero-r}
 use lib.ListN.{length, getD, set}
 use lib.Seq.{getD-set-same, getD-set-other}
 use borrow.Author.Tests.{eq-eqb, ne-eqb, eqb-false, lt-ltb, le-ltb}
-use borrow.Author.Count.{below-more}
+use borrow.Author.Count.{below-none, below-more}
 use Rattle.task.specs.Loops.{all}
 use Rattle.task.proofs.LoopLaws.{below-suc, true-or-false}
 use Rattle.blocks.specs.Blocks.{common, isEmpty}
@@ -22,7 +22,7 @@ use Rattle.blocks.specs.Flat.{past, rowOf}
 use Rattle.blocks.specs.Masks.{lies}
 use Rattle.blocks.proofs.PartLaws.{same-or-not}
 use Rattle.distances.specs.Arcs.{fitsIn}
-use Rattle.distances.specs.Words.{bitsBelow, nth, wordOf, bitAt, needIn, meetsIn, heldIn, openIn, Able, RowAble, Met, RowMet, Opened, Open}
+use Rattle.distances.specs.Words.{bitsBelow, nth, wordOf, bitAt, needIn, meetsIn, heldIn, openIn, Able, RowAble, Met, RowMet, Opened, Open, wideIn, Listed, Narrow}
 use Rattle.distances.specs.Turns.{Settled}
 
 -- ---- masks of tests
@@ -240,3 +240,41 @@ open-made count used D F b O o s =
       outside = λ a h. rw (le-ltb a count h);
       low = λ a h e. s .low a h (eqb-false (getD F a 0) 0 (sym (ap (λ t. t && eqb (getD F a 0) 0) (lt-ltb a count h)) ∙ e));
     }
+
+-- ---- the narrow columns
+module _ (used : ℕ) (M O : List ℕ) where
+  pub narrow-none : (N : List ℕ) → Narrow 0 used M O 0 N
+  narrow-none N = record { fits = omega arith; each = below-none _; others = below-none _ }
+
+  pub narrow-more : (j n r : ℕ) (t : Bool) (N : List ℕ) → Narrow j used M O n N → n < length N → t ≡ wideIn used M O j → r ≡ cond t 0 1 → Narrow (j + 1) used M O (n + r) (set N n j)
+  narrow-more j n r t N p l w e = go t w e
+    where
+      before : (i : ℕ) → i < n → getD (set N n j) i 0 ≡ getD N i 0
+      before i h = getD-set-other N n i j 0 (λ q. omega arith)
+
+      old : (x : ℕ) → x < j → (m : ℕ) → n ≤ m → (wideIn used M O x ≡ true) ⊎ ((i : ℕ) × (i < m) × (getD (set N n j) i 0 ≡ x))
+      old x h m k = ⊎-elim inl (λ v. inr (v .0, (let u = v .1 in omega arith), before (v .0) (v .1) ∙ v .2)) (p .others x h)
+
+      low : (i : ℕ) → i < n → getD (set N n j) i 0 < j + 1
+      low i h = let u = p .each i h in let v = before i h in omega arith
+
+      go : (t : Bool) → t ≡ wideIn used M O j → r ≡ cond t 0 1 → Narrow (j + 1) used M O (n + r) (set N n j)
+      go true w e =
+          let u = p .fits in
+          record {
+            fits = omega arith;
+            each = λ i h. low i (omega arith);
+            others = below-more _ j (λ x h. old x h (n + r) (omega arith)) (inl (sym w));
+          }
+      go false w e =
+          let u = p .fits in
+          let same = getD-set-same N n j 0 l in
+          let z : n + r ≡ n + 1 = omega arith in
+          rw z (record {
+            fits = omega arith;
+            each = below-more _ n low (omega arith);
+            others = below-more _ j (λ x h. old x h (n + 1) (omega arith)) (inr (n, omega arith, same));
+          })
+
+  pub narrow-listed : (columns n : ℕ) (N : List ℕ) → columns ≤ 16 → Narrow columns used M O n N → Listed n N
+  narrow-listed columns n N h p = record { each = λ i l. let u = p .each i l in omega arith }

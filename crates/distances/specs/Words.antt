@@ -2,10 +2,12 @@
 use mathlib.Core.Path.{_≡_}
 use mathlib.Core.Bool.{Bool, true, false, cond, _&&_, not}
 use mathlib.Core.List.{List}
+use mathlib.Core.Logic.{_⊎_}
 use Prim.Native.Nat.{ℕ, zero, suc, _+_, _-_, _*_, _/_, _%_, _^_, _<_, _≤_}
 use lib.Dec.{eqb, ltb}
 use lib.Bits.{bitAnd}
 use lib.ListN.{getD}
+use Rattle.task.specs.Loops.{all}
 use Rattle.task.specs.Sizes.{limits}
 use Rattle.blocks.specs.Blocks.{common, isEmpty}
 use Rattle.blocks.specs.Flat.{past, rowOf}
@@ -89,23 +91,37 @@ pub record Open (count used : ℕ) (D : List ℕ) (b : ℕ) (O : List ℕ) : Typ
   pub outside : (a : ℕ) → count ≤ a → has a ≡ false
   pub low : (a : ℕ) → a < count → has a ≡ false → getD D a 0 ≤ getD D b 0
 
+-- every open block meets the settled block in column j
+unfoldable pub wideIn : ℕ → List ℕ → List ℕ → ℕ → Bool
+wideIn used meets left j = all used (λ w. lies (getD left w 0) (getD meets (j * words + w) 0))
+
+-- the first places of a list are columns
+pub record Listed (few : ℕ) (N : List ℕ) : Type 0 where
+  pub each : (i : ℕ) → i < few → getD N i 0 < limits .columns
+
+-- they are columns of the model, and every other column of it is wide
+pub record Narrow (columns used : ℕ) (meets left : List ℕ) (few : ℕ) (N : List ℕ) : Type 0 where
+  pub fits : few ≤ columns
+  pub each : (i : ℕ) → i < few → getD N i 0 < columns
+  pub others : (j : ℕ) → j < columns → (wideIn used meets left j ≡ true) ⊎ ((i : ℕ) × (i < few) × (getD N i 0 ≡ j))
+
 -- ---- the test of an arc by the tables
 
 unfoldable pub keptPart : ℕ → ℕ → ℕ → ℕ
 keptPart v land meet = cond (isEmpty land) (bitAnd v meet) v
 
--- the blocks of v, which is word w, that meet the settled block in each of the first columns that step s keeps
-unfoldable pub keptWord : List ℕ → List ℕ → ℕ → ℕ → ℕ → ℕ → ℕ
-keptWord lands meets s w v zero = v
-keptWord lands meets s w v (suc j) = keptPart (keptWord lands meets s w v j) (past lands (rowOf s) j) (getD meets (j * words + w) 0)
+-- the blocks of v, which is word w, that meet the settled block in each of the first narrow columns that step s keeps
+unfoldable pub keptWord : List ℕ → List ℕ → List ℕ → ℕ → ℕ → ℕ → ℕ → ℕ
+keptWord narrow lands meets s w v zero = v
+keptWord narrow lands meets s w v (suc i) = keptPart (keptWord narrow lands meets s w v i) (past lands (rowOf s) (getD narrow i 0)) (getD meets (getD narrow i 0 * words + w) 0)
 
-unfoldable pub arcWord : ℕ → List ℕ → List ℕ → List ℕ → List ℕ → ℕ → ℕ → ℕ
-arcWord columns lands able meets left s w = keptWord lands meets s w (bitAnd (getD able (w * limits .steps + s) 0) (getD left w 0)) columns
+unfoldable pub arcWord : ℕ → List ℕ → List ℕ → List ℕ → List ℕ → List ℕ → ℕ → ℕ → ℕ
+arcWord few narrow lands able meets left s w = keptWord narrow lands meets s w (bitAnd (getD able (w * limits .steps + s) 0) (getD left w 0)) few
 
 -- block a is open, can take step s, and meets the settled block where s keeps the column
-unfoldable pub told : ℕ → List ℕ → List ℕ → List ℕ → List ℕ → ℕ → ℕ → Bool
-told columns lands able meets left s a = bitAt (arcWord columns lands able meets left s (a / word)) (a % word)
+unfoldable pub told : ℕ → List ℕ → List ℕ → List ℕ → List ℕ → List ℕ → ℕ → ℕ → Bool
+told few narrow lands able meets left s a = bitAt (arcWord few narrow lands able meets left s (a / word)) (a % word)
 
 -- the test of an arc into block b, where the landing has been tested
-unfoldable pub toldIn : ℕ → List ℕ → List ℕ → List ℕ → List ℕ → List ℕ → ℕ → ℕ → ℕ → Bool
-toldIn columns lands sets able meets left s b a = fitsIn columns lands sets s b && told columns lands able meets left s a
+unfoldable pub toldIn : ℕ → ℕ → List ℕ → List ℕ → List ℕ → List ℕ → List ℕ → List ℕ → ℕ → ℕ → ℕ → Bool
+toldIn columns few narrow lands sets able meets left s b a = fitsIn columns lands sets s b && told few narrow lands able meets left s a

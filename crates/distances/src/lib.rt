@@ -11,7 +11,7 @@ ghost use Rattle.blocks.specs.Masks.{goalBy};
 ghost use Rattle.distances.specs.Ways.{noWay, AllDist};
 ghost use Rattle.distances.specs.Turns.{Settled, Picked, Lowered, Relaxed, Started};
 ghost use Rattle.distances.specs.Arcs.{Arc, fitsIn, costIn, GoalIn};
-ghost use Rattle.distances.specs.Words.{word, words, wordsFor, wordOf, bitAt, inWord, needIn, meetsIn, heldIn, openIn, RowAble, Able, RowMet, Met, Opened, Open, keptPart, keptWord, told, toldIn};
+ghost use Rattle.distances.specs.Words.{word, words, wordsFor, wordOf, bitAt, inWord, needIn, meetsIn, heldIn, openIn, RowAble, Able, RowMet, Met, Opened, Open, wideIn, Listed, Narrow, keptPart, keptWord, told, toldIn};
 ghost use Rattle.distances.specs.Coded.{codedOver, Tables};
 use task::Block;
 use task::Model;
@@ -260,6 +260,54 @@ fn fill_open(count: usize, used: usize, done: &[u8; Model::BLOCKS], left: &mut [
     }
 }
 
+// Whether every open block meets the settled block in column j.
+fn is_wide(
+    used: usize,
+    j: usize,
+    meets: &[u32; Model::COLUMNS * WORDS],
+    left: &[u32; WORDS],
+) -> bool
+    requires { ⌜ (used ≤ words) × (j < limits .columns) ⌝ }
+    ensures { λ r. ⌜ r ≡ wideIn used (now (meets .entry)) (now (left .entry)) j ⌝ }
+{
+    let row = j * WORDS;
+    let mut w: usize = 0;
+    while w < used {
+        if !blocks::lies(left[w], meets[row + w]) {
+            return false;
+        }
+        w += 1;
+    }
+    true
+}
+
+fn one_unless(t: bool) -> usize
+    ensures { λ r. ⌜ r ≡ cond t 0 1 ⌝ }
+{
+    if t { 0 } else { 1 }
+}
+
+// The columns in which an open block does not meet the settled block, and how many they are. The other columns rule nothing out.
+fn fill_narrow(
+    columns: usize,
+    used: usize,
+    meets: &[u32; Model::COLUMNS * WORDS],
+    left: &[u32; WORDS],
+    narrow: &mut [usize; Model::COLUMNS],
+) -> usize
+    requires { ⌜ (columns ≤ limits .columns) × (used ≤ words) × (length (now narrow) ≡ limits .columns) ⌝ }
+    ensures { λ r. ⌜ Narrow columns used (now (meets .entry)) (now (left .entry)) r (now (narrow .exit)) ⌝ ∗ ⌜ length (now (narrow .exit)) ≡ limits .columns ⌝ }
+{
+    let mut few: usize = 0;
+    let mut j: usize = 0;
+    while j < columns {
+        narrow[few] = j;
+        few += one_unless(is_wide(used, j, meets, left));
+        j += 1;
+    }
+    few
+}
+
 fn first_value(goal: bool) -> u64
     ensures { λ r. ⌜ r ≡ cond goal 0 noWay ⌝ }
 {
@@ -322,27 +370,29 @@ fn kept_part(v: u32, land: u32, meet: u32) -> u32
     v
 }
 
-// The blocks of a mask that meet the settled block in every column that step s keeps.
+// The blocks of a mask that meet the settled block in every narrow column that step s keeps.
 fn kept_word(
-    columns: usize,
+    few: usize,
     s: usize,
     w: usize,
     first: u32,
+    narrow: &[usize; Model::COLUMNS],
     lands: &[u32; Model::STEPS * Model::COLUMNS],
     meets: &[u32; Model::COLUMNS * WORDS],
 ) -> u32
-    requires { ⌜ (columns ≤ limits .columns) × (s < limits .steps) × (w < words) ⌝ }
-    ensures { λ r. ⌜ r ≡ keptWord (now (lands .entry)) (now (meets .entry)) s w first columns ⌝ }
+    requires { ⌜ (few ≤ limits .columns) × (s < limits .steps) × (w < words) ⌝ ∗ ⌜ Listed few (now narrow) ⌝ }
+    ensures { λ r. ⌜ r ≡ keptWord (now (narrow .entry)) (now (lands .entry)) (now (meets .entry)) s w first few ⌝ }
 {
     let rs = s * Model::COLUMNS;
     let mut v = first;
-    let mut j: usize = 0;
-    while j < columns {
+    let mut i: usize = 0;
+    while i < few {
         if v == 0 {
             return 0;
         }
+        let j = narrow[i];
         v = kept_part(v, lands[rs + j], meets[j * WORDS + w]);
-        j += 1;
+        i += 1;
     }
     v
 }
@@ -377,23 +427,24 @@ fn lower_word(w: usize, v: u32, k: u64, dist: &mut [u64; Model::BLOCKS])
 
 // Gives the value k to each open block that has a greater one, from which step s can be taken and that meets the settled block in every kept column.
 fn sweep(
-    columns: usize,
+    few: usize,
     used: usize,
     s: usize,
     k: u64,
+    narrow: &[usize; Model::COLUMNS],
     lands: &[u32; Model::STEPS * Model::COLUMNS],
     able: &[u32; WORDS * Model::STEPS],
     meets: &[u32; Model::COLUMNS * WORDS],
     left: &[u32; WORDS],
     dist: &mut [u64; Model::BLOCKS],
 )
-    requires { ⌜ (columns ≤ limits .columns) × (used ≤ words) × (s < limits .steps) × (length (now dist) ≡ limits .blocks) ⌝ }
-    ensures { λ _. ⌜ Lowered (told columns (now (lands .entry)) (now (able .entry)) (now (meets .entry)) (now (left .entry)) s) k (used * word) (now (dist .entry)) (now (dist .exit)) ⌝ ∗ ⌜ length (now (dist .exit)) ≡ limits .blocks ⌝ }
+    requires { ⌜ (few ≤ limits .columns) × (used ≤ words) × (s < limits .steps) × (length (now dist) ≡ limits .blocks) ⌝ ∗ ⌜ Listed few (now narrow) ⌝ }
+    ensures { λ _. ⌜ Lowered (told few (now (narrow .entry)) (now (lands .entry)) (now (able .entry)) (now (meets .entry)) (now (left .entry)) s) k (used * word) (now (dist .entry)) (now (dist .exit)) ⌝ ∗ ⌜ length (now (dist .exit)) ≡ limits .blocks ⌝ }
 {
     let mut w: usize = 0;
     while w < used {
         let first = able[w * Model::STEPS + s] & left[w];
-        let v = kept_word(columns, s, w, first, lands, meets);
+        let v = kept_word(few, s, w, first, narrow, lands, meets);
         lower_word(w, v, k, dist);
         w += 1;
     }
@@ -402,10 +453,12 @@ fn sweep(
 // Gives the value k to each open block that has a greater one and from which step s leads to block b.
 fn lower(
     columns: usize,
+    few: usize,
     used: usize,
     s: usize,
     b: usize,
     k: u64,
+    narrow: &[usize; Model::COLUMNS],
     lands: &[u32; Model::STEPS * Model::COLUMNS],
     sets: &[u32; Model::BLOCKS * Model::COLUMNS],
     able: &[u32; WORDS * Model::STEPS],
@@ -413,13 +466,13 @@ fn lower(
     left: &[u32; WORDS],
     dist: &mut [u64; Model::BLOCKS],
 )
-    requires { ⌜ (columns ≤ limits .columns) × (used ≤ words) × (s < limits .steps) × (b < limits .blocks) × (length (now dist) ≡ limits .blocks) ⌝ }
-    ensures { λ _. ⌜ Lowered (toldIn columns (now (lands .entry)) (now (sets .entry)) (now (able .entry)) (now (meets .entry)) (now (left .entry)) s b) k (used * word) (now (dist .entry)) (now (dist .exit)) ⌝ ∗ ⌜ length (now (dist .exit)) ≡ limits .blocks ⌝ }
+    requires { ⌜ (columns ≤ limits .columns) × (few ≤ limits .columns) × (used ≤ words) × (s < limits .steps) × (b < limits .blocks) × (length (now dist) ≡ limits .blocks) ⌝ ∗ ⌜ Listed few (now narrow) ⌝ }
+    ensures { λ _. ⌜ Lowered (toldIn columns few (now (narrow .entry)) (now (lands .entry)) (now (sets .entry)) (now (able .entry)) (now (meets .entry)) (now (left .entry)) s b) k (used * word) (now (dist .entry)) (now (dist .exit)) ⌝ ∗ ⌜ length (now (dist .exit)) ≡ limits .blocks ⌝ }
 {
     if !fits_in(columns, s, b, lands, sets) {
         return;
     }
-    sweep(columns, used, s, k, lands, able, meets, left, dist);
+    sweep(few, used, s, k, narrow, lands, able, meets, left, dist);
 }
 
 // Tries every step into block b, with the tables.
@@ -427,6 +480,7 @@ fn tries(
     columns: usize,
     count: usize,
     steps: usize,
+    few: usize,
     used: usize,
     b: usize,
     needs: &[u32; Model::STEPS * Model::COLUMNS],
@@ -436,16 +490,31 @@ fn tries(
     able: &[u32; WORDS * Model::STEPS],
     meets: &[u32; Model::COLUMNS * WORDS],
     left: &[u32; WORDS],
+    narrow: &[usize; Model::COLUMNS],
     dist: &mut [u64; Model::BLOCKS],
 )
-    requires { ⌜ (columns ≤ limits .columns) × (count ≤ limits .blocks) × (steps ≤ limits .steps) × (used ≡ wordsFor count) × (steps ≤ length (now costs)) × (b < count) × (length (now dist) ≡ limits .blocks) × (getD (now dist) b 0 < noWay) ⌝ ∗ ⌜ Able columns steps (now needs) (now sets) used (now able) ⌝ ∗ ⌜ Met columns used (now sets) (past (now sets) (rowOf b)) (now meets) ⌝ ∗ ⌜ Open count used (now dist) b (now left) ⌝ }
+    requires { ⌜ (columns ≤ limits .columns) × (count ≤ limits .blocks) × (steps ≤ limits .steps) × (used ≡ wordsFor count) × (steps ≤ length (now costs)) × (b < count) × (length (now dist) ≡ limits .blocks) × (getD (now dist) b 0 < noWay) ⌝ ∗ ⌜ Able columns steps (now needs) (now sets) used (now able) ⌝ ∗ ⌜ Met columns used (now sets) (past (now sets) (rowOf b)) (now meets) ⌝ ∗ ⌜ Open count used (now dist) b (now left) ⌝ ∗ ⌜ Narrow columns used (now meets) (now left) few (now narrow) ⌝ }
     ensures { λ _. ⌜ Relaxed count (Arc columns count steps (now (needs .entry)) (now (lands .entry)) (now (sets .entry))) (costIn (now (costs .entry))) (now (dist .entry)) (now (dist .exit)) b ⌝ ∗ ⌜ length (now (dist .exit)) ≡ limits .blocks ⌝ }
 {
     let base = dist[b];
     let mut s: usize = 0;
     while s < steps {
         let k = base + weigh(costs[s]);
-        lower(columns, used, s, b, k, lands, sets, able, meets, left, dist);
+        lower(
+            columns,
+            few,
+            used,
+            s,
+            b,
+            k,
+            narrow,
+            lands,
+            sets,
+            able,
+            meets,
+            left,
+            dist,
+        );
         s += 1;
     }
 }
@@ -466,17 +535,20 @@ fn relax(
     held: &mut [u32; Model::COLUMNS],
     meets: &mut [u32; Model::COLUMNS * WORDS],
     left: &mut [u32; WORDS],
+    narrow: &mut [usize; Model::COLUMNS],
     dist: &mut [u64; Model::BLOCKS],
 )
-    requires { ⌜ (columns ≤ limits .columns) × (count ≤ limits .blocks) × (steps ≤ limits .steps) × (used ≡ wordsFor count) × (steps ≤ length (now costs)) × (b < count) × (length (now dist) ≡ limits .blocks) × (getD (now dist) b 0 < noWay) × (length (now held) ≡ limits .columns) × (length (now meets) ≡ limits .columns * words) × (length (now left) ≡ words) ⌝ ∗ ⌜ Able columns steps (now needs) (now sets) used (now able) ⌝ ∗ ⌜ Met columns used (now sets) (heldIn (now held)) (now meets) ⌝ ∗ ⌜ Settled count (now dist) (now done) b ⌝ }
-    ensures { λ _. ⌜ Relaxed count (Arc columns count steps (now (needs .entry)) (now (lands .entry)) (now (sets .entry))) (costIn (now (costs .entry))) (now (dist .entry)) (now (dist .exit)) b ⌝ ∗ ⌜ Met columns used (now (sets .entry)) (heldIn (now (held .exit))) (now (meets .exit)) ⌝ ∗ ⌜ (length (now (dist .exit)) ≡ limits .blocks) × (length (now (held .exit)) ≡ limits .columns) × (length (now (meets .exit)) ≡ limits .columns * words) × (length (now (left .exit)) ≡ words) ⌝ }
+    requires { ⌜ (columns ≤ limits .columns) × (count ≤ limits .blocks) × (steps ≤ limits .steps) × (used ≡ wordsFor count) × (steps ≤ length (now costs)) × (b < count) × (length (now dist) ≡ limits .blocks) × (getD (now dist) b 0 < noWay) × (length (now held) ≡ limits .columns) × (length (now meets) ≡ limits .columns * words) × (length (now left) ≡ words) × (length (now narrow) ≡ limits .columns) ⌝ ∗ ⌜ Able columns steps (now needs) (now sets) used (now able) ⌝ ∗ ⌜ Met columns used (now sets) (heldIn (now held)) (now meets) ⌝ ∗ ⌜ Settled count (now dist) (now done) b ⌝ }
+    ensures { λ _. ⌜ Relaxed count (Arc columns count steps (now (needs .entry)) (now (lands .entry)) (now (sets .entry))) (costIn (now (costs .entry))) (now (dist .entry)) (now (dist .exit)) b ⌝ ∗ ⌜ Met columns used (now (sets .entry)) (heldIn (now (held .exit))) (now (meets .exit)) ⌝ ∗ ⌜ (length (now (dist .exit)) ≡ limits .blocks) × (length (now (held .exit)) ≡ limits .columns) × (length (now (meets .exit)) ≡ limits .columns * words) × (length (now (left .exit)) ≡ words) × (length (now (narrow .exit)) ≡ limits .columns) ⌝ }
 {
     fill_open(count, used, done, left);
     fill_meets(columns, used, b, sets, held, meets);
+    let few = fill_narrow(columns, used, meets, left, narrow);
     tries(
         columns,
         count,
         steps,
+        few,
         used,
         b,
         needs,
@@ -486,6 +558,7 @@ fn relax(
         able,
         meets,
         left,
+        narrow,
         dist,
     );
 }
@@ -505,10 +578,11 @@ fn settle(
     held: &mut [u32; Model::COLUMNS],
     meets: &mut [u32; Model::COLUMNS * WORDS],
     left: &mut [u32; WORDS],
+    narrow: &mut [usize; Model::COLUMNS],
     done: &mut [u8; Model::BLOCKS],
     dist: &mut [u64; Model::BLOCKS],
 )
-    requires { ⌜ (columns ≤ limits .columns) × (count ≤ limits .blocks) × (steps ≤ limits .steps) × (used ≡ wordsFor count) × (steps ≤ length (now costs)) × (length (now dist) ≡ limits .blocks) × (length (now held) ≡ limits .columns) × (length (now meets) ≡ limits .columns * words) × (length (now left) ≡ words) × (length (now done) ≡ limits .blocks) ⌝ ∗ ⌜ Able columns steps (now needs) (now sets) used (now able) ⌝ ∗ ⌜ Met columns used (now sets) (heldIn (now held)) (now meets) ⌝ ∗ ⌜ Started (goalBy columns (now goals) (now sets)) count (now dist) (now dist) ⌝ ∗ ⌜ ((a : ℕ) → getD (now done) a 0 ≡ 0) ⌝ }
+    requires { ⌜ (columns ≤ limits .columns) × (count ≤ limits .blocks) × (steps ≤ limits .steps) × (used ≡ wordsFor count) × (steps ≤ length (now costs)) × (length (now dist) ≡ limits .blocks) × (length (now held) ≡ limits .columns) × (length (now meets) ≡ limits .columns * words) × (length (now left) ≡ words) × (length (now narrow) ≡ limits .columns) × (length (now done) ≡ limits .blocks) ⌝ ∗ ⌜ Able columns steps (now needs) (now sets) used (now able) ⌝ ∗ ⌜ Met columns used (now sets) (heldIn (now held)) (now meets) ⌝ ∗ ⌜ Started (goalBy columns (now goals) (now sets)) count (now dist) (now dist) ⌝ ∗ ⌜ ((a : ℕ) → getD (now done) a 0 ≡ 0) ⌝ }
     ensures { λ _. ⌜ AllDist (Arc columns count steps (now (needs .entry)) (now (lands .entry)) (now (sets .entry))) (GoalIn columns (now (goals .entry)) (now (sets .entry))) (costIn (now (costs .entry))) count (now (dist .entry)) (now (dist .exit)) ⌝ ∗ ⌜ length (now (dist .exit)) ≡ limits .blocks ⌝ }
 {
     loop {
@@ -532,6 +606,7 @@ fn settle(
             held,
             meets,
             left,
+            narrow,
             dist,
         );
     }
@@ -556,6 +631,7 @@ pub fn fill_distances(
     let mut held = [0u32; Model::COLUMNS];
     let mut meets = [0u32; Model::COLUMNS * WORDS];
     let mut left = [0u32; WORDS];
+    let mut narrow = [0usize; Model::COLUMNS];
     let mut done = [0u8; Model::BLOCKS];
     let used = (count + (WORD - 1)) / WORD;
     fill_able(columns, steps, used, needs, sets, &mut able);
@@ -574,6 +650,7 @@ pub fn fill_distances(
         &mut held,
         &mut meets,
         &mut left,
+        &mut narrow,
         &mut done,
         dist,
     );

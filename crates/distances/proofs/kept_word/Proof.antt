@@ -1,9 +1,9 @@
-use mathlib.Core.Path.{_≡_, refl, sym, _∙_, ap}
-use Prim.Native.Nat.{ℕ, _≤_, _<_, _-_, _+_, _*_, _^_}
-use native.Mathlib.Omega.{arith}
-use Rattle.distances.specs.Words.{keptWord}
-use Rattle.distances.proofs.ArcLaws.{kept-none, kept-more, kept-zero}
 use Rattle.blocks.specs.Flat.{past}
+use Rattle.distances.proofs.ArcLaws.{kept-none, kept-more, kept-zero}
+use Rattle.distances.specs.Words.{keptWord}
+use native.Mathlib.Omega.{arith}
+use Prim.Native.Nat.{ℕ, _≤_, _<_, _-_, _+_, _*_, _^_}
+use mathlib.Core.Path.{_≡_, refl, sym, _∙_, ap}
 use borrow.Author.Needs.{needs}
 use Rattle.distances.proofs.kept_word.Statement.{statement}
 use Rattle.distances.proofs.kept_word.Tie as tie
@@ -12,73 +12,81 @@ use Rattle.distances.proofs.kept_word.Lts as lts
 use Rattle.distances.proofs.kept_part.Reads as kept-part-reads
 
 abbrev Inv-loop : tie.InvT-loop
-Inv-loop columns s w first lands meets rs v₀ j₀ v j = (j ≤ columns) × (v ≡ keptWord lands meets s w first j)
+Inv-loop few s w first narrow lands meets rs v₀ i₀ v i = (i ≤ few) × (v ≡ keptWord narrow lands meets s w first i)
 
 abbrev μ-loop : tie.MeasureT-loop
-μ-loop columns s w first lands meets rs v₀ j₀ v j = columns - j
+μ-loop few s w first narrow lands meets rs v₀ i₀ v i = few - i
 
--- src/lib.rt:335:14
+-- src/lib.rt:381:14
 mul-rs : tie.Need-mul-rs Inv-loop μ-loop
 mul-rs c = search needs
 
--- src/lib.rt:338:5
+-- src/lib.rt:384:5
 loop-holds : tie.Need-loop-holds Inv-loop μ-loop
-loop-holds c = (omega arith, kept-none _ _ _ _ _)
+loop-holds c = (omega arith, kept-none _ _ _ _ _ _)
 
--- src/lib.rt:340:13
+-- src/lib.rt:386:13
 returns : tie.Need-returns Inv-loop μ-loop
-returns c = sym (kept-zero _ _ _ _ _ (c .before .before .loop .j) _ (omega arith) (sym (c .before .before .loop .inv .1) ∙ c .if1 .taken))
+returns c = sym (kept-zero _ _ _ _ _ _ (c .before .before .loop .i) _ (omega arith) (sym (c .before .before .loop .inv .1) ∙ c .if1 .taken))
 
--- src/lib.rt:342:32
+-- src/lib.rt:388:17
+mul-j : tie.Need-mul-j Inv-loop μ-loop
+mul-j c = search needs
+
+-- src/lib.rt:388:17
+element-copy-out-j : tie.Need-element-copy-out-j Inv-loop μ-loop
+element-copy-out-j c = search needs
+
+-- src/lib.rt:389:32
 add-kept-part : tie.Need-add-kept-part Inv-loop μ-loop
-add-kept-part c = search needs
+add-kept-part c = omega (arith, c .before .before .before .before .pre .1 .each (c .before .before .before .loop .i) (c .before .before .loop-test .taken))
 
--- src/lib.rt:342:26
+-- src/lib.rt:389:26
 mul-kept-part : tie.Need-mul-kept-part Inv-loop μ-loop
-mul-kept-part c = search needs
+mul-kept-part c = omega (arith, c .before .before .before .before .pre .1 .each (c .before .before .before .loop .i) (c .before .before .loop-test .taken))
 
--- src/lib.rt:342:26
+-- src/lib.rt:389:26
 element-copy-out-kept-part : tie.Need-element-copy-out-kept-part Inv-loop μ-loop
-element-copy-out-kept-part c = search needs
+element-copy-out-kept-part c = omega (arith, c .before .before .before .before .pre .1 .each (c .before .before .before .loop .i) (c .before .before .loop-test .taken))
 
--- src/lib.rt:342:47
+-- src/lib.rt:389:47
 mul-kept-part-2 : tie.Need-mul-kept-part-2 Inv-loop μ-loop
-mul-kept-part-2 c = search needs
+mul-kept-part-2 c = omega (arith, c .before .before .before .before .before .pre .1 .each (c .before .before .before .before .loop .i) (c .before .before .before .loop-test .taken))
 
--- src/lib.rt:342:47
+-- src/lib.rt:389:47
 add-kept-part-2 : tie.Need-add-kept-part-2 Inv-loop μ-loop
-add-kept-part-2 c = search needs
+add-kept-part-2 c = omega (arith, c .before .before .before .before .before .pre .1 .each (c .before .before .before .before .loop .i) (c .before .before .before .loop-test .taken))
 
--- src/lib.rt:342:41
+-- src/lib.rt:389:41
 mul-kept-part-3 : tie.Need-mul-kept-part-3 Inv-loop μ-loop
-mul-kept-part-3 c = search needs
+mul-kept-part-3 c = omega (arith, c .before .before .before .before .before .pre .1 .each (c .before .before .before .before .loop .i) (c .before .before .before .loop-test .taken))
 
--- src/lib.rt:342:41
+-- src/lib.rt:389:41
 element-copy-out-kept-part-2 : tie.Need-element-copy-out-kept-part-2 Inv-loop μ-loop
-element-copy-out-kept-part-2 c = search needs
+element-copy-out-kept-part-2 c = omega (arith, c .before .before .before .before .before .pre .1 .each (c .before .before .before .before .loop .i) (c .before .before .before .loop-test .taken))
 
--- src/lib.rt:342:9
+-- src/lib.rt:389:9
 kept-part-requires : tie.Need-kept-part-requires Inv-loop μ-loop
 kept-part-requires c κs = search needs
 
--- src/lib.rt:343:9
-add-j : tie.Need-add-j Inv-loop μ-loop
-add-j c = search needs
+-- src/lib.rt:390:9
+add-i : tie.Need-add-i Inv-loop μ-loop
+add-i c = search needs
 
--- src/lib.rt:338:5
+-- src/lib.rt:384:5
 loop-less : tie.Need-loop-less Inv-loop μ-loop
 loop-less c = search needs
 
--- src/lib.rt:338:5
+-- src/lib.rt:384:5
 loop-again : tie.Need-loop-again Inv-loop μ-loop
 unfolding past
-loop-again c = (omega arith, kept-more _ _ _ _ _ (c .before .before .before .before .before .loop .j) _ _ (c .before .before .before .before .before .loop .inv .1) (c .kept-part .ensures))
+loop-again c = let l = c .before .before .before .before .before .before .loop in (omega arith, kept-more _ _ _ _ _ _ (l .i) _ _ (l .inv .1) (c .kept-part .ensures))
 
--- src/lib.rt:324:1
+-- src/lib.rt:369:1
 returns-2 : tie.Need-returns-2 Inv-loop μ-loop
 returns-2 c =
     let l = c .before .loop in
-    let e : l .j ≡ c .before .before .args .columns = omega arith in
+    let e : l .i ≡ c .before .before .args .few = omega arith in
     rw e at (l .inv .1)
 
 pub kept-word-spec : {M : Type 1} → statement M
@@ -90,6 +98,8 @@ kept-word-spec =
     mul-rs
     loop-holds
     returns
+    mul-j
+    element-copy-out-j
     add-kept-part
     mul-kept-part
     element-copy-out-kept-part
@@ -98,7 +108,7 @@ kept-word-spec =
     mul-kept-part-3
     element-copy-out-kept-part-2
     kept-part-requires
-    add-j
+    add-i
     loop-less
     loop-again
     returns-2)

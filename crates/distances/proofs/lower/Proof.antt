@@ -1,5 +1,4 @@
 use mathlib.Core.Path.{sym, _∙_}
-use Prim.Native.Nat.{_-_}
 use mathlib.Core.List.{[]}
 use borrow.Author.Tests.{not-true, not-false}
 use Rattle.distances.proofs.ArcLaws.{no-landing, lands-there}
@@ -11,21 +10,21 @@ use Rattle.distances.proofs.lower.Lts as lts
 use Rattle.distances.proofs.fits_in.Reads as fits-in-reads
 use Rattle.distances.proofs.sweep.Reads as sweep-reads
 
--- src/lib.rt:281:9
+-- src/lib.rt:467:9
 fits-in-requires : tie.Need-fits-in-requires
 fits-in-requires c κs = search needs
 
--- src/lib.rt:282:9
+-- src/lib.rt:468:9
 returns : tie.Need-returns
-returns c = (no-landing _ _ _ _ _ _ _ _ _ _ _ [] (sym (c .before .fits-in .ensures) ∙ not-true _ (c .if1 .taken)), search needs)
+returns c = (no-landing _ _ _ _ _ _ _ _ _ _ _ _ _ [] (sym (c .before .fits-in .ensures) ∙ not-true _ (c .if1 .taken)), search needs)
 
--- src/lib.rt:284:5
+-- src/lib.rt:470:5
 sweep-requires : tie.Need-sweep-requires
 sweep-requires c κs = search needs
 
--- src/lib.rt:265:1
+-- src/lib.rt:449:1
 returns-2 : tie.Need-returns-2
-returns-2 c = (lands-there _ _ _ _ _ _ _ _ _ _ _ _ (sym (c .before .before .before .fits-in .ensures) ∙ not-false _ (c .before .before .if1 .left)) (c .sweep .ensures .0), c .sweep .ensures .1)
+returns-2 c = (lands-there _ _ _ _ _ _ _ _ _ _ _ _ _ _ (sym (c .before .before .before .fits-in .ensures) ∙ not-false _ (c .before .before .if1 .left)) (c .sweep .ensures .0), c .sweep .ensures .1)
 
 pub lower-spec : {M : Type 1} → statement M
 lower-spec = tie.close (tie.spec fits-in-requires returns sweep-requires returns-2)

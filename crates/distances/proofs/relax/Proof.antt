@@ -5,29 +5,38 @@ use Rattle.distances.proofs.relax.Tie as tie
 use Rattle.distances.proofs.relax.Reads as reads
 use Rattle.distances.proofs.relax.Lts as lts
 use Rattle.distances.proofs.fill_meets.Reads as fill-meets-reads
+use Rattle.distances.proofs.fill_narrow.Reads as fill-narrow-reads
 use Rattle.distances.proofs.fill_open.Reads as fill-open-reads
 use Rattle.distances.proofs.tries.Reads as tries-reads
 
--- src/lib.rt:472:5
+-- src/lib.rt:539:5
 fill-open-requires : tie.Need-fill-open-requires
 fill-open-requires c κs = search needs
 
--- src/lib.rt:473:5
+-- src/lib.rt:540:5
 fill-meets-requires : tie.Need-fill-meets-requires
 fill-meets-requires c κs = search needs
 
--- src/lib.rt:474:5
+-- src/lib.rt:541:9
+fill-narrow-requires : tie.Need-fill-narrow-requires
+fill-narrow-requires c κs = search needs
+
+-- src/lib.rt:542:5
 tries-requires : tie.Need-tries-requires
 tries-requires c κs =
-    let p = c .before .before .before .before .before .before .before .before .before .pre in
-    let q = p .0 in
-    ((q .0, q .1, q .2, q .3, q .4, q .5, q .6, q .7), (p .1 .0, (c .before .before .before .fill-meets .ensures .1 .0, open-made _ _ _ _ _ _ (c .before .before .before .before .before .before .fill-open .ensures .0) (p .1 .1 .1))))
+    let p = c .before .before .before .before .before .before .before .before .before .before .before .before .before .before .pre in
+    let q = p .0 in (
+      (q .0, q .1, q .2, q .3, q .4, q .5, q .6, q .7),
+      (p .1 .0, (c .before .before .before .before .before .before .before .before .fill-meets .ensures .1 .0, (open-made _ _ _ _ _ _ (c .before .before .before .before .before .before .before .before .before .before .before .fill-open .ensures .0) (p .1 .1 .1), c .before .before .before .before .fill-narrow .ensures .0))),
+    )
 
--- src/lib.rt:452:1
+-- src/lib.rt:518:1
 returns : tie.Need-returns
 returns c =
-    let m = c .before .before .before .before .fill-meets .ensures in
-    (c .tries .ensures .0, (m .0, (c .tries .ensures .1, m .1 .1 .0, m .1 .1 .1, c .before .before .before .before .before .before .before .fill-open .ensures .1)))
+    let m = c .before .before .before .before .before .before .before .before .before .fill-meets .ensures in
+    (c .tries .ensures .0, (m .0, (c .tries .ensures .1, m .1 .1 .0, m .1 .1 .1, c .before .before .before .before .before .before .before .before .before .before .before .before .fill-open .ensures .1, c .before .before .before .before .before .fill-narrow .ensures .1)))
 
 pub relax-spec : {M : Type 1} → statement M
-relax-spec = tie.close (tie.spec fill-open-requires fill-meets-requires tries-requires returns)
+relax-spec =
+    tie.close
+    (tie.spec fill-open-requires fill-meets-requires fill-narrow-requires tries-requires returns)
