@@ -1,4 +1,3 @@
-use mathlib.Core.Path.{_≡_, refl, sym, _∙_, ap}
 use Rattle.distances.specs.Words.{bitAt}
 use borrow.Author.Needs.{needs}
 use Rattle.distances.proofs.has_bit.Statement.{statement}

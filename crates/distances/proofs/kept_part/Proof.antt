@@ -1,7 +1,6 @@
 use Rattle.distances.specs.Words.{keptPart}
 use Rattle.blocks.specs.Blocks.{isEmpty}
 use borrow.Author.Tests.{eq-eqb, ne-eqb}
-use borrow.Author.Needs.{needs}
 use Rattle.distances.proofs.kept_part.Statement.{statement}
 use Rattle.distances.proofs.kept_part.Tie as tie
 use Rattle.distances.proofs.kept_part.Reads as reads

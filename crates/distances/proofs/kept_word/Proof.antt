@@ -2,8 +2,8 @@ use Rattle.blocks.specs.Flat.{past}
 use Rattle.distances.proofs.ArcLaws.{kept-none, kept-more, kept-zero}
 use Rattle.distances.specs.Words.{keptWord}
 use native.Mathlib.Omega.{arith}
-use Prim.Native.Nat.{ℕ, _≤_, _<_, _-_, _+_, _*_, _^_}
-use mathlib.Core.Path.{_≡_, refl, sym, _∙_, ap}
+use Prim.Native.Nat.{_≤_, _-_}
+use mathlib.Core.Path.{_≡_, sym, _∙_}
 use borrow.Author.Needs.{needs}
 use Rattle.distances.proofs.kept_word.Statement.{statement}
 use Rattle.distances.proofs.kept_word.Tie as tie

@@ -1,7 +1,6 @@
-use mathlib.Core.Path.{_≡_, refl, sym, _∙_, ap}
-use Prim.Native.Nat.{ℕ, _≤_, _<_, _-_, _+_, _*_, _^_}
+use mathlib.Core.Path.{_≡_, sym}
+use Prim.Native.Nat.{_≤_, _-_}
 use native.Mathlib.Omega.{arith}
-use mathlib.Core.Bool.{cond}
 use Rattle.distances.specs.Words.{bitsBelow, nth, wordOf, meetsIn}
 use Rattle.distances.proofs.WordLaws.{bits-none, mask-room, mask-more}
 use Rattle.blocks.specs.Flat.{past}

@@ -1,4 +1,3 @@
-use mathlib.Core.Path.{_≡_, refl, sym, _∙_, ap}
 use Rattle.distances.proofs.WordLaws.{row-same}
 use borrow.Author.Needs.{needs}
 use Rattle.distances.proofs.renew_column.Statement.{statement}

@@ -1,4 +1,3 @@
-use mathlib.Core.Path.{_≡_, refl, sym, _∙_, ap}
 use native.Mathlib.Omega.{arith}
 use Rattle.distances.proofs.WordLaws.{no-need}
 use borrow.Author.Needs.{needs}
