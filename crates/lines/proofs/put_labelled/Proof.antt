@@ -1,0 +1,23 @@
+use Rattle.lines.proofs.LineLaws.{joined}
+use borrow.Author.Needs.{needs}
+use Rattle.lines.proofs.put_labelled.Statement.{statement}
+use Rattle.lines.proofs.put_labelled.Tie as tie
+use Rattle.lines.proofs.put_labelled.Reads as reads
+use Rattle.lines.proofs.put_labelled.Lts as lts
+use Rattle.lines.proofs.put_number.Reads as put-number-reads
+use Rattle.lines.proofs.put_text.Reads as put-text-reads
+
+put-text-requires : tie.Need-put-text-requires
+put-text-requires c κs = search needs
+
+put-number-requires : tie.Need-put-number-requires
+put-number-requires c κs = search needs
+
+same-length : tie.Need-same-length
+same-length c = search needs
+
+returns : tie.Need-returns
+returns c = joined (c .before .before .before .before .before .before .before .before .before .before .args .text .now) (c .before .before .before .before .before .before .before .before .before .before .args .n) (c .before .before .before .before .before .before .put-text .ensures) (c .before .before .put-number .ensures)
+
+pub put-labelled-spec : {M : Type 1} → statement M
+put-labelled-spec = tie.close (tie.spec put-text-requires put-number-requires same-length returns)

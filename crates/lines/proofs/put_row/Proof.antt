@@ -1,0 +1,115 @@
+use native.Mathlib.Omega.{arith}
+use Rattle.lines.specs.Lines.{space}
+use Rattle.lines.proofs.LineLaws.{same-long, labelled-most, decimal-most, row-joined}
+use borrow.Author.Needs.{needs}
+use Rattle.lines.proofs.put_row.Statement.{statement}
+use Rattle.lines.proofs.put_row.Tie as tie
+use Rattle.lines.proofs.put_row.Reads as reads
+use Rattle.lines.proofs.put_row.Lts as lts
+use Rattle.lines.proofs.put_labelled.Reads as put-labelled-reads
+use Rattle.lines.proofs.put_number.Reads as put-number-reads
+use Rattle.lines.proofs.put_text.Reads as put-text-reads
+use Rattle.lines.proofs.wide.Reads as wide-reads
+
+mul-place : tie.Need-mul-place
+mul-place c = search needs
+
+add-put-number : tie.Need-add-put-number
+add-put-number c = search needs
+
+put-number-requires : tie.Need-put-number-requires
+put-number-requires c κs = search needs
+
+slice-aggregate-put-labelled : tie.Need-slice-aggregate-put-labelled
+slice-aggregate-put-labelled c = search needs
+
+mul-wide : tie.Need-mul-wide
+mul-wide c = search needs
+
+shared-slice-read-wide : tie.Need-shared-slice-read-wide
+shared-slice-read-wide c = search needs
+
+wide-requires : tie.Need-wide-requires
+wide-requires c κs = search needs
+
+put-labelled-requires : tie.Need-put-labelled-requires
+put-labelled-requires c κs = omega (arith, c .before .before .before .before .before .before .before .before .before .before .pre .2, decimal-most _ (c .before .before .before .before .before .before .put-number .ensures), same-long (c .before .before .before .before .before .before .put-number .ensures))
+
+slice-aggregate-put-labelled-2 : tie.Need-slice-aggregate-put-labelled-2
+slice-aggregate-put-labelled-2 c = search needs
+
+add-wide : tie.Need-add-wide
+add-wide c = search needs
+
+mul-wide-2 : tie.Need-mul-wide-2
+mul-wide-2 c = search needs
+
+shared-slice-read-wide-2 : tie.Need-shared-slice-read-wide-2
+shared-slice-read-wide-2 c = search needs
+
+wide-requires-2 : tie.Need-wide-requires-2
+wide-requires-2 c κs = search needs
+
+put-labelled-requires-2 : tie.Need-put-labelled-requires-2
+put-labelled-requires-2 c κs = omega (arith, c .before .before .before .before .before .before .before .before .before .before .before .before .before .before .before .before .before .pre .2, decimal-most _ (c .before .before .before .before .before .before .before .before .before .before .before .before .before .put-number .ensures), same-long (c .before .before .before .before .before .before .before .before .before .before .before .before .before .put-number .ensures), labelled-most space _ (c .before .before .before .before .before .before .put-labelled .ensures), same-long (c .before .before .before .before .before .before .put-labelled .ensures))
+
+slice-aggregate-put-labelled-3 : tie.Need-slice-aggregate-put-labelled-3
+slice-aggregate-put-labelled-3 c = search needs
+
+add-wide-2 : tie.Need-add-wide-2
+add-wide-2 c = search needs
+
+mul-wide-3 : tie.Need-mul-wide-3
+mul-wide-3 c = search needs
+
+shared-slice-read-wide-3 : tie.Need-shared-slice-read-wide-3
+shared-slice-read-wide-3 c = search needs
+
+wide-requires-3 : tie.Need-wide-requires-3
+wide-requires-3 c κs = search needs
+
+put-labelled-requires-3 : tie.Need-put-labelled-requires-3
+put-labelled-requires-3 c κs = omega (arith, c .before .before .before .before .before .before .before .before .before .before .before .before .before .before .before .before .before .before .before .before .before .before .before .before .pre .2, decimal-most _ (c .before .before .before .before .before .before .before .before .before .before .before .before .before .before .before .before .before .before .before .before .put-number .ensures), same-long (c .before .before .before .before .before .before .before .before .before .before .before .before .before .before .before .before .before .before .before .before .put-number .ensures), labelled-most space _ (c .before .before .before .before .before .before .before .before .before .before .before .before .before .put-labelled .ensures), same-long (c .before .before .before .before .before .before .before .before .before .before .before .before .before .put-labelled .ensures), labelled-most space _ (c .before .before .before .before .before .before .put-labelled2 .ensures), same-long (c .before .before .before .before .before .before .put-labelled2 .ensures))
+
+slice-aggregate-put-text : tie.Need-slice-aggregate-put-text
+slice-aggregate-put-text c = search needs
+
+put-text-requires : tie.Need-put-text-requires
+put-text-requires c κs = omega (arith, c .before .before .before .before .before .before .before .before .before .before .before .before .before .before .before .before .before .before .before .before .before .before .before .before .before .before .before .before .before .pre .2, decimal-most _ (c .before .before .before .before .before .before .before .before .before .before .before .before .before .before .before .before .before .before .before .before .before .before .before .before .before .put-number .ensures), same-long (c .before .before .before .before .before .before .before .before .before .before .before .before .before .before .before .before .before .before .before .before .before .before .before .before .before .put-number .ensures), labelled-most space _ (c .before .before .before .before .before .before .before .before .before .before .before .before .before .before .before .before .before .before .put-labelled .ensures), same-long (c .before .before .before .before .before .before .before .before .before .before .before .before .before .before .before .before .before .before .put-labelled .ensures), labelled-most space _ (c .before .before .before .before .before .before .before .before .before .before .before .put-labelled2 .ensures), same-long (c .before .before .before .before .before .before .before .before .before .before .before .put-labelled2 .ensures), labelled-most space _ (c .before .before .before .before .put-labelled3 .ensures), same-long (c .before .before .before .before .put-labelled3 .ensures))
+
+same-length : tie.Need-same-length
+same-length c = search needs
+
+returns : tie.Need-returns
+returns c =
+    row-joined (c .before .before .before .before .before .before .before .before .before .before .before .before .before .before .before .before .before .before .before .before .before .before .before .before .before .before .before .before .before .before .before .before .args .list .now) (c .before .before .before .before .before .before .before .before .before .before .before .before .before .before .before .before .before .before .before .before .before .before .before .before .before .before .before .before .before .before .before .before .args .i) _ _ _ (c .before .before .before .before .before .before .before .before .before .before .before .before .before .before .before .before .before .before .before .before .before .before .before .wide .ensures) (c .before .before .before .before .before .before .before .before .before .before .before .before .before .before .before .before .wide2 .ensures) (c .before .before .before .before .before .before .before .before .before .wide3 .ensures) (c .before .before .before .before .before .before .before .before .before .before .before .before .before .before .before .before .before .before .before .before .before .before .before .before .before .before .before .before .put-number .ensures) (c .before .before .before .before .before .before .before .before .before .before .before .before .before .before .before .before .before .before .before .before .before .put-labelled .ensures)
+    (c .before .before .before .before .before .before .before .before .before .before .before .before .before .before .put-labelled2 .ensures) (c .before .before .before .before .before .before .before .put-labelled3 .ensures) (c .before .before .put-text .ensures)
+
+pub put-row-spec : {M : Type 1} → statement M
+put-row-spec =
+    tie.close
+    (tie.spec
+    mul-place
+    add-put-number
+    put-number-requires
+    slice-aggregate-put-labelled
+    mul-wide
+    shared-slice-read-wide
+    wide-requires
+    put-labelled-requires
+    slice-aggregate-put-labelled-2
+    add-wide
+    mul-wide-2
+    shared-slice-read-wide-2
+    wide-requires-2
+    put-labelled-requires-2
+    slice-aggregate-put-labelled-3
+    add-wide-2
+    mul-wide-3
+    shared-slice-read-wide-3
+    wide-requires-3
+    put-labelled-requires-3
+    slice-aggregate-put-text
+    put-text-requires
+    same-length
+    returns)

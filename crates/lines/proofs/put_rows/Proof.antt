@@ -1,0 +1,50 @@
+use native.Mathlib.Omega.{arith}
+use Prim.Native.Nat.{_-_}
+use Rattle.lines.proofs.LineLaws.{RowsPut, rows-none, rows-more, rows-end, same-long}
+use borrow.Author.Needs.{needs}
+use Rattle.lines.proofs.put_rows.Statement.{statement}
+use Rattle.lines.proofs.put_rows.Tie as tie
+use Rattle.lines.proofs.put_rows.Reads as reads
+use Rattle.lines.proofs.put_rows.Lts as lts
+use Rattle.lines.proofs.put_row.Reads as put-row-reads
+
+abbrev Inv-loop : tie.InvT-loop
+Inv-loop list count out₀ at next₀ i₀ out next i = RowsPut list out₀ at count out next i
+
+abbrev μ-loop : tie.MeasureT-loop
+μ-loop list count out₀ at next₀ i₀ out next i = count - i
+
+loop-holds : tie.Need-loop-holds Inv-loop μ-loop
+loop-holds c = rows-none (c .before .before .args .list .now) (c .before .before .args .out .now) (c .before .before .args .at) (c .before .before .args .count)
+
+put-row-requires : tie.Need-put-row-requires Inv-loop μ-loop
+put-row-requires c κs = let w = c .before .before .loop .inv in (omega (arith, c .before .loop-test .taken, c .before .before .before .before .before .pre .0), omega (arith, c .before .loop-test .taken, c .before .before .before .before .before .pre .1), omega (arith, c .before .loop-test .taken, c .before .before .before .before .before .pre .2, w .most, same-long (w .put)))
+
+add-i : tie.Need-add-i Inv-loop μ-loop
+add-i c = search needs
+
+loop-less : tie.Need-loop-less Inv-loop μ-loop
+loop-less c = search needs
+
+loop-again : tie.Need-loop-again Inv-loop μ-loop
+loop-again c = rows-more (c .before .before .before .before .before .before .before .before .args .list .now) (c .before .before .before .before .before .before .before .before .args .out .now) (c .before .before .before .before .before .before .before .before .args .at) (c .before .before .before .before .before .before .before .before .args .count) (c .before .before .before .before .before .loop .i) (c .before .before .before .before .before .loop .inv) (c .before .before .before .before .loop-test .taken) (c .before .before .put-row .ensures)
+
+same-length : tie.Need-same-length Inv-loop μ-loop
+same-length c = same-long (c .before .loop .inv .put)
+
+returns : tie.Need-returns Inv-loop μ-loop
+returns c = rows-end (c .before .before .before .before .args .list .now) (c .before .before .before .before .args .out .now) (c .before .before .before .before .args .at) (c .before .before .before .before .args .count) (c .before .loop .i) (c .before .loop .inv) (c .loop-test .left)
+
+pub put-rows-spec : {M : Type 1} → statement M
+put-rows-spec =
+    tie.close
+    (tie.spec
+    Inv-loop
+    μ-loop
+    loop-holds
+    put-row-requires
+    add-i
+    loop-less
+    loop-again
+    same-length
+    returns)

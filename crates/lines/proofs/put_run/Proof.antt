@@ -1,0 +1,49 @@
+use native.Mathlib.Omega.{arith}
+use mathlib.Core.Path.{refl}
+use Rattle.lines.proofs.PrintedLaws.{counted, rows-go, lines-put}
+use borrow.Author.Needs.{needs}
+use Rattle.lines.proofs.put_run.Statement.{statement}
+use Rattle.lines.proofs.put_run.Tie as tie
+use Rattle.lines.proofs.put_run.Reads as reads
+use Rattle.lines.proofs.put_run.Lts as lts
+use Rattle.counts.proofs.row_values.Reads as row-values-reads
+use Rattle.lines.proofs.put_first_line.Reads as put-first-line-reads
+use Rattle.lines.proofs.put_rows.Reads as put-rows-reads
+use Rattle.running.proofs.run.Reads as run-reads
+
+run-requires : tie.Need-run-requires
+run-requires c κs = search needs
+
+put-first-line-requires : tie.Need-put-first-line-requires
+put-first-line-requires c κs = (counted (c .before .before .before .before .before .before .before .before .before .before .before .before .args .sheet .now) (c .before .before .before .before .before .before .before .before .before .before .before .before .args .room) (c .before .before .before .before .before .before .before .before .before .before .before .before .args .cuts .now) (c .before .before .before .before .before .before .before .before .before .before .before .before .args .rows .now) (c .before .before .before .before .before .before .before .before .before .before .before .before .pre .0, c .before .before .before .before .before .before .before .before .before .before .before .before .pre .1) (c .before .before .before .before .before .run .ensures), omega (arith, c .before .before .before .before .before .before .before .before .before .before .before .before .pre .2))
+
+row-values-requires : tie.Need-row-values-requires
+row-values-requires c κs = counted (c .before .before .before .before .before .before .before .before .before .before .before .before .before .before .before .args .sheet .now) (c .before .before .before .before .before .before .before .before .before .before .before .before .before .before .before .args .room) (c .before .before .before .before .before .before .before .before .before .before .before .before .before .before .before .args .cuts .now) (c .before .before .before .before .before .before .before .before .before .before .before .before .before .before .before .args .rows .now) (c .before .before .before .before .before .before .before .before .before .before .before .before .before .before .before .pre .0, c .before .before .before .before .before .before .before .before .before .before .before .before .before .before .before .pre .1) (c .before .before .before .before .before .before .before .before .run .ensures)
+
+put-rows-requires : tie.Need-put-rows-requires
+put-rows-requires c κs = rows-go (c .before .before .before .before .before .before .before .before .before .before .before .before .before .before .before .before .before .before .args .sheet .now) (c .before .before .before .before .before .before .before .before .before .before .before .before .before .before .before .before .before .before .args .room) (c .before .before .before .before .before .before .before .before .before .before .before .before .before .before .before .before .before .before .args .cuts .now) (c .before .before .before .before .before .before .before .before .before .before .before .before .before .before .before .before .before .before .args .rows .now) (c .before .before .before .before .before .before .before .before .before .before .before .before .before .before .before .before .before .before .pre .0, c .before .before .before .before .before .before .before .before .before .before .before .before .before .before .before .before .before .before .pre .1) (c .before .before .before .before .before .before .before .before .before .before .before .run .ensures) (c .before .before .row-values .ensures) refl (c .before .before .before .before .before .before .before .before .before .before .before .before .before .before .before .before .before .before .pre .2) (c .before .before .before .before .before .put-first-line .ensures)
+
+same-length : tie.Need-same-length
+same-length c = search needs
+
+same-length-2 : tie.Need-same-length-2
+same-length-2 c = search needs
+
+same-length-3 : tie.Need-same-length-3
+same-length-3 c = search needs
+
+returns : tie.Need-returns
+returns c = lines-put (c .before .before .before .before .before .before .before .before .before .before .before .before .before .before .before .before .before .before .before .before .before .args .sheet .now) (c .before .before .before .before .before .before .before .before .before .before .before .before .before .before .before .before .before .before .before .before .before .args .room) (c .before .before .before .before .before .before .before .before .before .before .before .before .before .before .before .before .before .before .before .before .before .args .cuts .now) (c .before .before .before .before .before .before .before .before .before .before .before .before .before .before .before .before .before .before .before .before .before .args .rows .now) (c .before .before .before .before .before .before .before .before .before .before .before .before .before .before .before .before .before .before .before .before .before .pre .0, c .before .before .before .before .before .before .before .before .before .before .before .before .before .before .before .before .before .before .before .before .before .pre .1) (c .before .before .before .before .before .before .before .before .before .before .before .before .before .before .run .ensures) (c .before .before .before .before .before .row-values .ensures) refl (c .before .before .before .before .before .before .before .before .put-first-line .ensures) (c .before .before .put-rows .ensures)
+
+pub put-run-spec : {M : Type 1} → statement M
+put-run-spec =
+    tie.close
+    (tie.spec
+    run-requires
+    put-first-line-requires
+    row-values-requires
+    put-rows-requires
+    same-length
+    same-length-2
+    same-length-3
+    returns)
