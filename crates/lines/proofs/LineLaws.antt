@@ -10,7 +10,7 @@ use mathlib.Core.Option.{Option, some, none, Option·getD}
 use lib.Dec.{ltb}
 use lib.ListN.{length, getD, set, take, length-append}
 use lib.Seq.{take-suc, take-length, length-take-le}
-use borrow.Author.Tests.{lt-ltb, le-ltb, ltb-true}
+use borrow.Author.Tests.{lt-ltb, ltb-true}
 use Rattle.io.specs.Digits.{digits, Fewest}
 use Rattle.task.specs.Loops.{first, when}
 use Rattle.task.proofs.LoopLaws.{first-found, first-some, when-some}

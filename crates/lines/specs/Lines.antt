@@ -1,5 +1,5 @@
 -- 01, "The small re-thread": the lines that the program prints, in ASCII.
-use Prim.Native.Nat.{ℕ, suc, _+_, _*_, _/_, _^_}
+use Prim.Native.Nat.{ℕ, _+_, _*_, _/_, _^_}
 use mathlib.Core.Path.{_≡_}
 use mathlib.Core.List.{List, [], _∷_, _++_}
 use mathlib.Core.Option.{Option·getD}
@@ -12,8 +12,8 @@ use Rattle.task.specs.Task.{Task}
 use Rattle.fields.specs.Bits.{fieldAt}
 use Rattle.fields.specs.Judging.{check, outside, pick, refusal, each}
 use Rattle.fields.specs.Places.{puts}
-use Rattle.sheets.specs.ModelSheet.{ofSheet, sheetChecks}
-use Rattle.sheets.specs.Holding.{taskIn}
+use Rattle.sheets.specs.ModelSheet.{sheetChecks}
+use Rattle.sheets.specs.Holding.{taskOn}
 use Rattle.run.specs.Run as run
 use Rattle.run.specs.Run.{blocksIn, rowsOf}
 use Rattle.refining.specs.Listing.{listed, rowPlace}
@@ -82,7 +82,7 @@ madeLines t o = firstLine (told t (blocksIn o) (o .answer)) ++ rowLines (listed 
 unfoldable pub ranLines : List ℕ → ℕ → List ℕ
 ranLines s room =
     let n = refusal (sheetChecks s ++ (check 7 (outside 1 (limits .blocks) room) ∷ [])) in
-    pick (eqb n 0) (madeLines (taskIn (ofSheet s)) (run.run (taskIn (ofSheet s)) room)) (firstLine (Refused n))
+    pick (eqb n 0) (madeLines (taskOn s) (run.run (taskOn s) room)) (firstLine (Refused n))
 
 -- room in 16 bits, then a model sheet; fewer than two bytes is refusal 1
 unfoldable pub printed : List ℕ → List ℕ
