@@ -24,10 +24,10 @@ mod watch;
 use call::{Call, Slice};
 use chance::Chance;
 use judge::{difference, judge, shown, Expected, Outcome};
-use planner::NO_WAY;
 use planner::blocks::Cut;
 use planner::run::Answer;
 use planner::task::Model;
+use planner::NO_WAY;
 use product::{Product, Seen};
 use tally::Tally;
 
@@ -89,7 +89,8 @@ impl Compare {
         for (values, slice) in example.values.iter().zip(&expected.slices) {
             let bytes: Vec<u8> = values.iter().flat_map(|value| value.to_be_bytes()).collect();
             // input slices have no values here
-            good &= values.is_empty() || slice.starts_with(&bytes) && slice[bytes.len()..].iter().all(|byte| *byte == 0xa5);
+            good &=
+                values.is_empty() || slice.starts_with(&bytes) && slice[bytes.len()..].iter().all(|byte| *byte == 0xa5);
         }
         if good {
             return Ok(());
@@ -189,7 +190,8 @@ impl Compare {
             estimates: Slice::plain(vec![0x77; states.len() / model.columns() * 4]),
         };
         let (seen, _) = self.compared(&call)?;
-        let values = seen.slices[3].chunks(4).map(|value| value.iter().fold(0, |all, byte| all * 256 + u64::from(*byte)));
+        let values =
+            seen.slices[3].chunks(4).map(|value| value.iter().fold(0, |all, byte| all * 256 + u64::from(*byte)));
         let values = values.collect();
         Ok((call, values))
     }

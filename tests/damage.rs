@@ -235,7 +235,8 @@ pub fn damaged_cut_part(chance: &mut Chance, model: &Model, cuts: &[Cut]) -> Vec
             pack(&fields)
         }
         1 => {
-            fields[1].value = chance.pick(&[cuts.len() as u64 + 1, (cuts.len() as u64).saturating_sub(1), 255]).min(255);
+            fields[1].value =
+                chance.pick(&[cuts.len() as u64 + 1, (cuts.len() as u64).saturating_sub(1), 255]).min(255);
             pack(&fields)
         }
         2 => with_fill(chance, pack(&fields), &fields),

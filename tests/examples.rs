@@ -41,8 +41,7 @@ fn without_tape() -> Model {
 
 /// Column 0 is gone through from end to end for each position of column 1; every step costs 65,535.
 pub fn chain(wide: usize, high: usize) -> Model {
-    let mut steps: Vec<Step> =
-        (0..wide - 1).map(|at| step(65_535, &[Some(at), None], &[Some(at + 1), None])).collect();
+    let mut steps: Vec<Step> = (0..wide - 1).map(|at| step(65_535, &[Some(at), None], &[Some(at + 1), None])).collect();
     steps.extend((0..high - 1).map(|at| step(65_535, &[Some(wide - 1), Some(at)], &[Some(0), Some(at + 1)])));
     Model { sizes: vec![wide, high], start: vec![0, 0], goal: vec![Some(wide - 1), Some(high - 1)], steps }
 }

@@ -14,7 +14,10 @@ pub unsafe extern "C" fn judge_run(
     sheet: *const u8, sheet_len: usize, room: u32, cuts: *mut u8, cuts_len: usize, rows: *mut u8, rows_len: usize,
 ) -> u64 {
     run_entry(
-        from_raw_parts(sheet, sheet_len), room, from_raw_parts_mut(cuts, cuts_len), from_raw_parts_mut(rows, rows_len),
+        from_raw_parts(sheet, sheet_len),
+        room,
+        from_raw_parts_mut(cuts, cuts_len),
+        from_raw_parts_mut(rows, rows_len),
     )
     .0
 }
@@ -27,7 +30,9 @@ pub unsafe extern "C" fn judge_question(
     states_len: usize, estimates: *mut u8, estimates_len: usize,
 ) -> u32 {
     question_entry(
-        from_raw_parts(model, model_len), from_raw_parts(cut_sheet, cut_sheet_len), from_raw_parts(states, states_len),
+        from_raw_parts(model, model_len),
+        from_raw_parts(cut_sheet, cut_sheet_len),
+        from_raw_parts(states, states_len),
         from_raw_parts_mut(estimates, estimates_len),
     )
     .0

@@ -1,10 +1,10 @@
 //! A call as the independent planner answers it, and what differs from the product's answer.
 
 use crate::call::{Call, Slice};
-use crate::planner::Refusal;
 use crate::planner::entries::{question_entry, run_entry};
 use crate::planner::run::Run;
 use crate::planner::task::Model;
+use crate::planner::Refusal;
 use crate::product::Seen;
 
 pub enum Outcome {
@@ -40,7 +40,11 @@ pub fn judge(call: &Call) -> Expected {
 /// What the product did otherwise, if anything.
 pub fn difference(call: &Call, seen: &Seen, expected: &Expected) -> Option<String> {
     if seen.answer != expected.answer {
-        return Some(format!("answer {}, expected {}", taken_apart(call, seen.answer), taken_apart(call, expected.answer)));
+        return Some(format!(
+            "answer {}, expected {}",
+            taken_apart(call, seen.answer),
+            taken_apart(call, expected.answer)
+        ));
     }
     if let Some((slice, place)) = seen.outside {
         return Some(format!("a byte beside the {} was changed, at {place} from its first", names(call)[slice]));
@@ -84,7 +88,10 @@ pub fn shown(call: &Call) -> String {
         }
         Call::Question { model, cut_sheet, states, estimates } => format!(
             "elhavir_question\n  model {}\n  cut sheet {}\n  states {}\n{}",
-            shown_bytes(model), shown_bytes(cut_sheet), shown_bytes(states), shown_list("estimates", estimates)
+            shown_bytes(model),
+            shown_bytes(cut_sheet),
+            shown_bytes(states),
+            shown_list("estimates", estimates)
         ),
     }
 }
@@ -96,7 +103,12 @@ fn shown_bytes(slice: &Slice) -> String {
 }
 
 fn shown_list(name: &str, list: &Slice) -> String {
-    format!("  {name}: {} bytes, {:?}{}\n", list.content.len(), list.side, if list.null { ", null if empty" } else { "" })
+    format!(
+        "  {name}: {} bytes, {:?}{}\n",
+        list.content.len(),
+        list.side,
+        if list.null { ", null if empty" } else { "" }
+    )
 }
 
 pub fn hex(bytes: &[u8]) -> String {

@@ -88,8 +88,8 @@ fn list(chance: &mut Chance, needed: usize, place: usize, short: usize) -> Slice
             0..=3 => needed,
             4..=6 => needed + chance.between(1, place - 1),
             7..=8 => needed + place * chance.between(1, 4),
-            // once in a while so long that 16 bits don't hold it
-            _ if chance.percent(3) => needed + 65_536,
+            // once in a while so long that 16 bits don't hold it, and what they would hold is too short
+            _ if chance.percent(5) => 65_536 + chance.below(needed.max(1)),
             _ => needed + chance.below(1000),
         }
     };

@@ -43,9 +43,7 @@ impl Product {
                 let slices = [sheet, cuts, rows];
                 let at = self.lend(&slices);
                 let answer = unsafe {
-                    elhavir_run(
-                        at[0], sheet.content.len(), *room, at[1], cuts.content.len(), at[2], rows.content.len(),
-                    )
+                    elhavir_run(at[0], sheet.content.len(), *room, at[1], cuts.content.len(), at[2], rows.content.len())
                 };
                 self.seen(answer, &slices)
             }
@@ -54,7 +52,13 @@ impl Product {
                 let at = self.lend(&slices);
                 let answer = unsafe {
                     elhavir_question(
-                        at[0], model.content.len(), at[1], cut_sheet.content.len(), at[2], states.content.len(), at[3],
+                        at[0],
+                        model.content.len(),
+                        at[1],
+                        cut_sheet.content.len(),
+                        at[2],
+                        states.content.len(),
+                        at[3],
                         estimates.content.len(),
                     )
                 };

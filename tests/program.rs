@@ -113,7 +113,8 @@ fn input(room: u16, sheet: &[u8]) -> Vec<u8> {
 fn fixed_inputs() -> Vec<Vec<u8>> {
     let sheet = write_sheet(&examples::small_rethread());
     assert_eq!(lines(&input(5, &sheet)), "plan 100 steps 3 blocks 5\n1 2 30 70\n2 0 20 50\n3 3 50 0\n");
-    let mut list: Vec<Vec<u8>> = [5, 4, 3, 2, 1, 0, 6, 255, 256, 257, 512, 65_535].map(|room| input(room, &sheet)).to_vec();
+    let mut list: Vec<Vec<u8>> =
+        [5, 4, 3, 2, 1, 0, 6, 255, 256, 257, 512, 65_535].map(|room| input(room, &sheet)).to_vec();
     list.extend([vec![], vec![0], vec![5], vec![255], vec![0, 5], vec![0, 0], vec![255, 255], vec![0, 5, 0x10]]);
     let chain = write_sheet(&examples::chain(32, 8));
     list.extend([input(256, &chain), input(255, &chain), input(0, &chain)]);

@@ -30,9 +30,20 @@ fn possible() -> Vec<(&'static str, Part, u32)> {
     list
 }
 
-const OTHERS: [&str; 12] = [
-    "plan", "plan of no steps", "plan with a free step", "no plan", "no plan in a full room", "open", "20 cuts or more",
-    "goal flaw", "need flaw", "divergence flaw", "estimate", "estimate: no way",
+const OTHERS: [&str; 13] = [
+    "plan",
+    "plan of no steps",
+    "plan with a free step",
+    "no plan",
+    "no plan in a full room",
+    "open",
+    "20 cuts or more",
+    "9 columns or more",
+    "goal flaw",
+    "need flaw",
+    "divergence flaw",
+    "estimate",
+    "estimate: no way",
 ];
 
 impl Tally {
@@ -55,6 +66,7 @@ impl Tally {
     fn count_run(&mut self, model: &Model, run: &Run, room: usize) {
         run.flaws.iter().for_each(|kind| self.meet(flaw_name(*kind)));
         self.meet_if(run.cuts.len() >= 20, "20 cuts or more");
+        self.meet_if(model.columns() >= 9, "9 columns or more");
         match &run.answer {
             Answer::Plan { steps, .. } => {
                 self.meet("plan");
@@ -87,7 +99,8 @@ impl Tally {
             println!("refusals of {entry}");
             for number in 1..=11 {
                 let of_number = possible().into_iter().filter(|row| row.0 == entry && row.2 == number);
-                let parts: Vec<_> = of_number.map(|row| (row.1, self.refused.get(&row).copied().unwrap_or(0))).collect();
+                let parts: Vec<_> =
+                    of_number.map(|row| (row.1, self.refused.get(&row).copied().unwrap_or(0))).collect();
                 if parts.is_empty() {
                     continue;
                 }

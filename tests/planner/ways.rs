@@ -146,15 +146,23 @@ impl<'m> ByColumns<'m> {
     }
 
     fn renew(&mut self, from: usize, to: usize) {
+        let (a, b) = (&self.blocks[from], &self.blocks[to]);
+        let apart: Vec<usize> = (0..a.len()).filter(|column| !meet(&a[*column], &b[*column])).collect();
         let mut least = None;
-        for (number, step) in self.model.steps.iter().enumerate() {
-            // a dearer step changes nothing, and the rule is not asked
-            if least.is_none_or(|least| step.cost < least) && self.leads(from, number, to) {
-                lower(&mut least, step.cost);
+        for step in &self.model.steps {
+            // a dearer step changes nothing, and one that leaves alone a column where the sets are apart can't lead:
+            // the rule is not asked, which would take most of the time
+            let dearer = least.is_some_and(|least| step.cost >= least);
+            if !dearer && apart.iter().all(|column| touches(step, *column)) && leads_between(a, b, step) {
+                least = Some(step.cost);
             }
         }
         self.table[from][to] = least;
     }
+}
+
+fn touches(step: &Step, column: usize) -> bool {
+    step.needs[column].is_some() || step.effects[column].is_some()
 }
 
 /// A need lies in a's set; an effect, or else a need, lies in b's set; with neither, the two sets meet.
@@ -212,9 +220,8 @@ fn lower(least: &mut Option<u64>, cost: u64) {
 }
 
 fn listed(table: &[Vec<Option<u64>>]) -> Vec<Vec<(usize, u64)>> {
-    let row_of = |row: &Vec<Option<u64>>| {
-        row.iter().enumerate().filter_map(|(to, cost)| cost.map(|cost| (to, cost))).collect()
-    };
+    let row_of =
+        |row: &Vec<Option<u64>>| row.iter().enumerate().filter_map(|(to, cost)| cost.map(|cost| (to, cost))).collect();
     table.iter().map(row_of).collect()
 }
 
