@@ -21,8 +21,8 @@ pub fn any_model(chance: &mut Chance) -> Model {
         250..=499 => planted(chance, 4, 5, 12),
         500..=649 => odometer(chance),
         650..=899 => doors(chance),
-        900..=979 => planted(chance, 8, 6, 40),
-        980..=993 => large(chance),
+        900..=969 => planted(chance, 8, 6, 40),
+        970..=991 => large(chance),
         _ => full_size(chance),
     };
     if chance.percent(70) {

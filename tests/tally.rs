@@ -93,7 +93,7 @@ impl Tally {
 
     /// Prints the tables and says whether each answer was met often enough.
     pub fn enough(&self, calls: u64) -> bool {
-        let floor = calls / 400;
+        let floor = floor(calls, 400);
         let mut good = true;
         for entry in ["run", "question"] {
             println!("refusals of {entry}");
@@ -110,6 +110,7 @@ impl Tally {
                 println!("  {number}: {total}  ({})", words.join(", "));
             }
         }
+        let floor = self::floor(calls, 800);
         println!("answers");
         for name in OTHERS {
             let count = self.met.get(name).copied().unwrap_or(0);
@@ -117,6 +118,15 @@ impl Tally {
             println!("  {name}: {count}");
         }
         good && self.refused.keys().all(|row| possible().contains(row))
+    }
+}
+
+/// One in so many calls; a short comparison may miss an answer by chance, and is not held to it.
+fn floor(calls: u64, share: u64) -> u64 {
+    if calls < 5000 {
+        0
+    } else {
+        calls / share
     }
 }
 
