@@ -14,6 +14,7 @@ ghost use Rattle.blocks.specs.Masks.{needSets, landSets, goalSets};
 ghost use Rattle.distances.specs.Ways.{noWay};
 ghost use Rattle.run.specs.Run as run;
 ghost use Rattle.run.specs.Run.{refine};
+ghost use Rattle.refining.specs.declared.Ended.the-variants.{Open};
 ghost use Rattle.refining.specs.Listing.{cutPlace};
 ghost use Rattle.refining.specs.Refining.{Given, Made, Ready, lookOf, toldBy, KnownSeen, endBy, RunEnds};
 use blocks::Cut;
@@ -142,7 +143,14 @@ pub fn look(
     told(far, found)
 }
 
-// How a look ends a run that makes no further cut: a flaw with the room full is "open".
+// How a flaw ends a run whose room is full.
+fn left_open(estimate: u32, blocks: usize) -> Ended
+    ensures { λ r. ⌜ r ≡ Open estimate blocks ⌝ }
+{
+    Ended::Open(estimate, blocks)
+}
+
+// How a look ends a run that makes no further cut.
 fn end(seen: Seen, made: usize) -> Ended
     requires { ⌜ made < limits .blocks ⌝ }
     ensures { λ r. ⌜ r ≡ endBy seen made ⌝ }
@@ -151,7 +159,7 @@ fn end(seen: Seen, made: usize) -> Ended
     match seen {
         Seen::Hopeless => Ended::NoPlan(blocks),
         Seen::Planned(n) => Ended::Plan(n, blocks),
-        Seen::Flaw(estimate, _) => Ended::Open(estimate, blocks),
+        Seen::Flaw(estimate, _) => left_open(estimate, blocks),
     }
 }
 

@@ -1,10 +1,11 @@
-use mathlib.Core.Path.{refl}
 use Rattle.refining.specs.Refining.{endBy}
+use mathlib.Core.Path.{refl}
 use borrow.Author.Needs.{needs}
 use Rattle.refining.proofs.end.Statement.{statement}
 use Rattle.refining.proofs.end.Tie as tie
 use Rattle.refining.proofs.end.Reads as reads
 use Rattle.refining.proofs.end.Lts as lts
+use Rattle.refining.proofs.left_open.Reads as left-open-reads
 
 add-blocks : tie.Need-add-blocks
 add-blocks c = search needs
@@ -18,6 +19,9 @@ enum-known-seen c = search needs
 enum-known-seen-2 : tie.Need-enum-known-seen-2
 enum-known-seen-2 c = search needs
 
+left-open-requires : tie.Need-left-open-requires
+left-open-requires c κs = search needs
+
 returns : tie.Need-returns
 unfolding endBy
 returns c = rw (c .enum-told .given .1) refl
@@ -28,9 +32,17 @@ returns-2 c = rw (c .before .seen .given .1) refl
 
 returns-3 : tie.Need-returns-3
 unfolding endBy
-returns-3 c = rw (c .before .seen2 .given .1) refl
+returns-3 c = rw (c .before .before .seen2 .given .1) (c .left-open .ensures)
 
 pub end-spec : {M : Type 1} → statement M
 end-spec =
     tie.close
-    (tie.spec add-blocks enum-told enum-known-seen enum-known-seen-2 returns returns-2 returns-3)
+    (tie.spec
+    add-blocks
+    enum-told
+    enum-known-seen
+    enum-known-seen-2
+    left-open-requires
+    returns
+    returns-2
+    returns-3)
