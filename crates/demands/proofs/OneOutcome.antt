@@ -1,0 +1,99 @@
+-- 01, "What the contracts have to determine": for each input, refusals too, a contract leaves one possible result and one possible content of the
+-- lent tables. Each theorem takes the contract's equation twice, for two outcomes that it permits, and shows that they are equal.
+use Prim.Native.Nat.{ℕ}
+use mathlib.Core.Path.{_≡_, sym, ap, _∙_}
+use mathlib.Core.List.{List}
+use Rattle.sheets.specs.LentTables.{ofTables}
+use Rattle.reading.specs.declared.ModelRead.{ModelRead}
+use Rattle.reading.specs.Reading as reading
+use Rattle.writing.specs.declared.write.SheetWritten.{SheetWritten}
+use Rattle.writing.specs.Writing as writing
+use Rattle.cut_reading.specs.declared.CutsRebuilt.{CutsRebuilt}
+use Rattle.cut_reading.specs.Rebuilding as rebuilding
+use Rattle.cut_writing.specs.declared.CutsWritten.{CutsWritten}
+use Rattle.cut_writing.specs.CutWriting as cutWriting
+use Rattle.asking.specs.declared.Asked.{Asked}
+use Rattle.asking.specs.Question as question
+use Rattle.running.specs.declared.Answer.{Answer}
+use Rattle.running.specs.Running as running
+use Rattle.historian.specs.Entries as entries
+
+-- ---- the library
+
+-- read_model
+pub read-model-one : (sheet frame costs marks : List ℕ) {r r′ : ModelRead} {f f′ c c′ m m′ : List ℕ}
+    → reading.outcome r f c m ≡ reading.reading sheet frame costs marks
+    → reading.outcome r′ f′ c′ m′ ≡ reading.reading sheet frame costs marks
+    → (r ≡ r′) × (f ≡ f′) × (c ≡ c′) × (m ≡ m′)
+read-model-one sheet frame costs marks p q =
+    let e = p ∙ sym q in (
+      ap (λ (o : reading.Outcome). o .answer) e,
+      ap (λ (o : reading.Outcome). o .frame) e,
+      ap (λ (o : reading.Outcome). o .costs) e,
+      ap (λ (o : reading.Outcome). o .marks) e,
+    )
+
+-- write_model
+pub write-model-one : (columns steps : ℕ) (frame costs marks sheet : List ℕ) {r r′ : SheetWritten} {s s′ : List ℕ}
+    → writing.outcome r s ≡ writing.writing (ofTables columns steps frame costs marks) sheet
+    → writing.outcome r′ s′ ≡ writing.writing (ofTables columns steps frame costs marks) sheet
+    → (r ≡ r′) × (s ≡ s′)
+write-model-one columns steps frame costs marks sheet p q =
+    let e = p ∙ sym q in
+    (ap (λ (o : writing.Outcome). o .answer) e, ap (λ (o : writing.Outcome). o .sheet) e)
+
+-- rebuild
+pub rebuild-one : (model sheet cuts : List ℕ) {r r′ : CutsRebuilt} {c c′ : List ℕ}
+    → rebuilding.outcome r c ≡ rebuilding.rebuilding model sheet cuts
+    → rebuilding.outcome r′ c′ ≡ rebuilding.rebuilding model sheet cuts
+    → (r ≡ r′) × (c ≡ c′)
+rebuild-one model sheet cuts p q =
+    let e = p ∙ sym q in
+    (ap (λ (o : rebuilding.Outcome). o .answer) e, ap (λ (o : rebuilding.Outcome). o .cuts) e)
+
+-- write_cuts
+pub write-cuts-one : (model : List ℕ) (count : ℕ) (cuts sheet : List ℕ) {r r′ : CutsWritten} {s s′ : List ℕ}
+    → cutWriting.outcome r s ≡ cutWriting.writingCuts model count cuts sheet
+    → cutWriting.outcome r′ s′ ≡ cutWriting.writingCuts model count cuts sheet
+    → (r ≡ r′) × (s ≡ s′)
+write-cuts-one model count cuts sheet p q =
+    let e = p ∙ sym q in
+    (ap (λ (o : cutWriting.Outcome). o .answer) e, ap (λ (o : cutWriting.Outcome). o .sheet) e)
+
+-- question
+pub question-one : (model sheet states estimates : List ℕ) {r r′ : Asked} {l l′ : List ℕ}
+    → question.outcome r l ≡ question.asking model sheet states estimates
+    → question.outcome r′ l′ ≡ question.asking model sheet states estimates
+    → (r ≡ r′) × (l ≡ l′)
+question-one model sheet states estimates p q =
+    let e = p ∙ sym q in
+    (ap (λ (o : question.Outcome). o .answer) e, ap (λ (o : question.Outcome). o .estimates) e)
+
+-- run
+pub run-one : (sheet : List ℕ) (room : ℕ) (cuts rows : List ℕ) {r r′ : Answer} {c c′ l l′ : List ℕ}
+    → running.outcome r c l ≡ running.running sheet room cuts rows
+    → running.outcome r′ c′ l′ ≡ running.running sheet room cuts rows
+    → (r ≡ r′) × (c ≡ c′) × (l ≡ l′)
+run-one sheet room cuts rows p q =
+    let e = p ∙ sym q in
+    (ap (λ (o : running.Outcome). o .answer) e, ap (λ (o : running.Outcome). o .cuts) e, ap (λ (o : running.Outcome). o .rows) e)
+
+-- ---- the historian
+
+-- elhavir_run
+pub elhavir-run-one : (sheet : List ℕ) (room : ℕ) (cuts rows : List ℕ) {r r′ : ℕ} {c c′ l l′ : List ℕ}
+    → entries.runOutcome r c l ≡ entries.runEntry sheet room cuts rows
+    → entries.runOutcome r′ c′ l′ ≡ entries.runEntry sheet room cuts rows
+    → (r ≡ r′) × (c ≡ c′) × (l ≡ l′)
+elhavir-run-one sheet room cuts rows p q =
+    let e = p ∙ sym q in
+    (ap (λ (o : entries.RunOutcome). o .answer) e, ap (λ (o : entries.RunOutcome). o .cuts) e, ap (λ (o : entries.RunOutcome). o .rows) e)
+
+-- elhavir_question
+pub elhavir-question-one : (model sheet states estimates : List ℕ) {r r′ : ℕ} {l l′ : List ℕ}
+    → entries.askOutcome r l ≡ entries.askEntry model sheet states estimates
+    → entries.askOutcome r′ l′ ≡ entries.askEntry model sheet states estimates
+    → (r ≡ r′) × (l ≡ l′)
+elhavir-question-one model sheet states estimates p q =
+    let e = p ∙ sym q in
+    (ap (λ (o : entries.AskOutcome). o .answer) e, ap (λ (o : entries.AskOutcome). o .estimates) e)
