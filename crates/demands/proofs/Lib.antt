@@ -1,2 +1,4 @@
 pub mod OneOutcome
 pub mod Refusals
+pub mod Numbers
+pub mod Entry

@@ -136,7 +136,7 @@ module _ (s : List ℕ) (room : ℕ) (cuts rows : List ℕ) where
   unfolding runEntry
   entry-made z = simp (eq-eqb R 0 z)
 
-  entry-refused : (R ≡ 0 → ⊥) → runEntry s room cuts rows ≡ runOutcome R cuts rows
+  pub entry-refused : (R ≡ 0 → ⊥) → runEntry s room cuts rows ≡ runOutcome R cuts rows
   unfolding runEntry
   entry-refused z = simp (ne-eqb R 0 z)
 
