@@ -1,22 +1,23 @@
 -- What `elhavir_run` has answered, for whoever knows only its contract: the number's kind is 0 for a refusal, 1 for a plan, 2 for no plan and 3 for
 -- open, and each says what the demands ask of it.
-use Prim.Native.Nat.{ℕ, _+_, _-_, _*_, _^_, _≤_, _<_}
+use Prim.Native.Nat.{ℕ, _+_, _*_, _^_, _≤_, _<_}
 use native.Mathlib.Omega.{arith}
 use native.Mathlib.Decide.{ℕ-discrete}
-use mathlib.Core.Path.{_≡_, refl, sym, ap, _∙_, subst}
+use mathlib.Core.Path.{_≡_, refl, sym, ap, _∙_}
 use mathlib.Core.Bool.{true}
-use mathlib.Core.List.{List, [], _∷_}
+use mathlib.Core.List.{List, [], _∷_, _++_, append-assoc}
 use mathlib.Core.Option.{some}
 use lib.ListN.{length}
 use Rattle.task.specs.declared.Step.{Step}
 use Rattle.task.specs.Loops.{over}
-use Rattle.task.specs.Sizes.{limits}
-use Rattle.task.specs.Task.{Task, Accepted, stateCount, costOf, start, costs}
+use Rattle.task.specs.Task.{Task, State, Accepted, stateCount, costOf, isState, start, costs}
 use Rattle.task.proofs.TaskLaws.{start-state}
+use Rattle.task.proofs.LoopLaws.{and-left, and-right, and-both}
 use Rattle.blocks.specs.declared.Cut.{Cut}
-use Rattle.blocks.specs.Blocks.{accepted}
-use Rattle.distances.specs.Distances.{estimate}
-use Rattle.distances.proofs.EstimateLaws.{estimate-bound}
+use Rattle.blocks.specs.Blocks.{Blocks, whole, cutBlock, cutOk, cutsOk, accepted}
+use Rattle.blocks.proofs.FollowLaws.{accepted-less}
+use Rattle.distances.specs.Distances.{NoMore, estimate}
+use Rattle.distances.proofs.EstimateLaws.{estimate-bound, estimates-never-fall}
 use Rattle.fields.specs.Judging.{refusal, outside, each}
 use Rattle.fields.proofs.JudgingLaws.{neither, passed, refusal-append, inside-means}
 use Rattle.sheets.specs.ModelSheet.{sheetChecks, judgeSheet}
@@ -31,6 +32,18 @@ use Rattle.running.specs.Running.{told}
 use Rattle.historian.specs.Entries.{bytesOf, answerNumber, entryChecks, RunOutcome, runOutcome, madeBytes, runEntry}
 use Rattle.demands.proofs.Numbers.{kind, blocks, steps, value, Parts, takes-apart, entry-low}
 use Rattle.demands.proofs.Refusals.{entry-made, entry-refused}
+
+-- an accepted list's front is accepted
+front : (t : Task) (a b : List Cut) (bs : Blocks) → cutsOk t bs (a ++ b) ≡ true → cutsOk t bs a ≡ true
+unfolding cutsOk
+front t [] b bs h = refl
+front t (c ∷ a) b bs h =
+    let r : cutsOk t (cutBlock bs c) (a ++ b) ≡ true = and-right (cutOk t bs c) (cutsOk t (cutBlock bs c) (a ++ b)) h in
+    and-both (and-left (cutOk t bs c) (cutsOk t (cutBlock bs c) (a ++ b)) h) (front t a b (cutBlock bs c) r)
+
+accepted-front : (t : Task) (a b : List Cut) → accepted t (a ++ b) ≡ true → accepted t a ≡ true
+unfolding accepted
+accepted-front t a b h = front t a b (whole t ∷ []) h
 
 costs-few : (t : Task) → ((s : Step) → costOf t s ≤ 65535) → (ss : List Step) → costs t ss ≤ length ss * 65535
 unfolding costs
@@ -171,3 +184,10 @@ module _ (s : List ℕ) (room : ℕ) (cuts rows₀ : List ℕ) {r : ℕ} {cuts�
             within = fit;
             tells = rw (e, l) (tells t v room (f .1) (o .made) (w .made) fit rows₀ (o .answer) (w .right) (plan-short t v room (f .0)));
           }
+
+  -- from cut to cut no state's estimate falls, "no way" ranking above every number
+  pub never-falls : (m : Made) (before after : List Cut) (c : Cut) → m .made ≡ before ++ (c ∷ after) → (x : State) → isState t x ≡ true → NoMore (estimate t before x) (estimate t (before ++ (c ∷ [])) x)
+  never-falls m before after c q x h =
+      let w : accepted t ((before ++ (c ∷ [])) ++ after) ≡ true = rw (append-assoc before (c ∷ []) after) (rw q at (m .ok)) in
+      let l = accepted-less t (m .model) before c (accepted-front t (before ++ (c ∷ [])) after w) in
+      estimates-never-fall t (m .model) before (l .0) c (l .1) x h

@@ -2,3 +2,4 @@ pub mod OneOutcome
 pub mod Refusals
 pub mod Numbers
 pub mod Entry
+pub mod Cuts
