@@ -1,0 +1,167 @@
+-- Demand 2: "Sheets written and read back give the same model and cuts, and accepted bytes come back the same." Each theorem has the contract of
+-- the writer and of the reader as its premises. A list that is lent may be longer than what is put in it; the sheet is its first bytes.
+use Prim.Native.Nat.{ℕ, _+_, _*_, _^_, _≤_, _<_}
+use native.Mathlib.Decide.{ℕ-discrete}
+use mathlib.Core.Path.{_≡_, sym, ap, _∙_}
+use mathlib.Core.List.{List}
+use lib.ListN.{length, getD, take, drop}
+use lib.Seq.{take-append-seam}
+use borrow.Author.Tests.{eq-eqb, ne-eqb}
+use Rattle.task.specs.Loops.{over}
+use Rattle.fields.specs.Judging.{judged, refusal, checksOf}
+use Rattle.fields.specs.Packing.{sheetOf}
+use Rattle.fields.proofs.JudgingLaws.{neither, refusal-append}
+use Rattle.fields.proofs.PutLaws.{Bytes}
+use Rattle.sheets.specs.ModelSheet.{Source, columnsIn, stepsIn, columnsOf, stepsOf, ofSheet, entries, modelBytes, judgeSheet, sheetChecks}
+use Rattle.sheets.specs.LentTables.{frameOf, costsOf, marksOf, ofTables, readChecks, writeChecks}
+use Rattle.sheet_laws.proofs.TablesBack as tables
+use Rattle.reading.specs.declared.ModelRead.{ModelRead}
+use Rattle.reading.specs.declared.ModelRead.the-variants.{Held, Refused as NotRead}
+use Rattle.reading.specs.Reading as reading
+use Rattle.writing.specs.declared.write.SheetWritten.{SheetWritten}
+use Rattle.writing.specs.declared.write.SheetWritten.the-variants.{Sheet, Refused}
+use Rattle.writing.specs.Writing as writing
+use Rattle.task.specs.Task.{Accepted}
+use Rattle.sheets.specs.Holding.{taskOn}
+use Rattle.sheets.proofs.RoundLaws.{written-length}
+use Rattle.sheet_laws.proofs.Held.{accepted-task}
+use Rattle.cut_sheets.specs.CutPart.{cutsNamed, cutEntries, cutBytes, countOf}
+use Rattle.cut_sheets.specs.CutSheet.{tailOf, cutSheetChecks, cutsOf, cutList, cutLent, ofCuts, cutSheetOf, givenChecks, writeCutsChecks}
+use Rattle.cut_sheets.proofs.CutSheetLaws as round
+use Rattle.cut_writing.specs.declared.CutsWritten.the-variants.{Sheet as CutSheet, Refused as CutsRefused}
+use Rattle.cut_writing.specs.CutWriting as cutWriting
+
+bytesTold : SheetWritten → ℕ
+bytesTold (Sheet n) = n
+bytesTold (Refused n) = 0
+
+columnsTold : ModelRead → ℕ
+columnsTold (Held n m) = n
+columnsTold (NotRead k) = 0
+
+stepsTold : ModelRead → ℕ
+stepsTold (Held n m) = m
+stepsTold (NotRead k) = 0
+
+-- the tables that a reader has filled, as a writer is lent them
+tablesTold : reading.Outcome → Source
+tablesTold o = ofTables (columnsTold (o .answer)) (stepsTold (o .answer)) (o .frame) (o .costs) (o .marks)
+
+-- what was put over the front of a list is its first values
+front-of : (new old : List ℕ) → take (length new) (over new old) ≡ new
+unfolding over
+front-of new old = take-append-seam new (drop (length new) old)
+
+-- ---- the model sheet
+
+-- written and read back: the reader holds the writer's columns, steps and tables
+module _ (n m : ℕ) (frame costs marks sheet₀ : List ℕ) (bound : (j : ℕ) → j < m → getD costs j 0 < 65536) {b : ℕ} {s : List ℕ} (wrote : writing.outcome (Sheet b) s ≡ writing.writing (ofTables n m frame costs marks) sheet₀) where
+  abbrev P : Source
+  P = ofTables n m frame costs marks
+
+  abbrev W : ℕ
+  W = refusal (writeChecks P sheet₀)
+
+  write-quiet : W ≡ 0
+  unfolding writing.writing writing.number
+  write-quiet = split (ℕ-discrete W 0)
+    where
+      split : Dec (W ≡ 0) → W ≡ 0
+      split (yes z) = z
+      split (no z) = let e : writing.outcome (Sheet b) s ≡ writing.outcome (Refused W) sheet₀ = wrote ∙ simp (ne-eqb W 0 z) in sym (ap (λ (o : writing.Outcome). writing.number (o .answer)) e)
+
+  fields-good : judged (entries P) ≡ 0
+  unfolding writeChecks judged
+  fields-good = neither (refusal (checksOf (entries P))) _ (sym (refusal-append (checksOf (entries P)) _) ∙ write-quiet) .0
+
+  whole-write : writing.outcome (Sheet b) s ≡ writing.outcome (Sheet (modelBytes (columnsIn P) (stepsIn P))) (over (sheetOf (entries P)) sheet₀)
+  unfolding writing.writing
+  whole-write = wrote ∙ simp (eq-eqb W 0 write-quiet)
+
+  bound-in : (j : ℕ) → j < stepsIn P → P .cost j .value < 65536
+  unfolding ofTables
+  bound-in j h = bound j h
+
+  -- the bytes told are the sheet
+  pub sheet-is : take b s ≡ sheetOf (entries P)
+  unfolding bytesTold entries
+  sheet-is =
+      let l : b ≡ length (sheetOf (entries P)) = ap (λ (o : writing.Outcome). bytesTold (o .answer)) whole-write ∙ sym (written-length P fields-good bound-in) in
+      ap (λ (k : ℕ). take k s) l ∙ ap (λ (o : writing.Outcome). take (length (sheetOf (entries P))) (o .sheet)) whole-write ∙ front-of (sheetOf (entries P)) sheet₀
+
+  pub model-back : (f c k : List ℕ) → n * 3 ≤ length f → m ≤ length c → m * (n * 2) ≤ length k → {r : ModelRead} {f′ c′ k′ : List ℕ} → reading.outcome r f′ c′ k′ ≡ reading.reading (take b s) f c k
+      → reading.outcome r f′ c′ k′ ≡ reading.outcome (Held n m) (over (take (n * 3) frame) f) (over (take m costs) c) (over (take (m * (n * 2)) marks) k)
+  model-back f c k hf hc hk read = read ∙ ap (λ (x : List ℕ). reading.reading x f c k) sheet-is ∙ tables.tables-back n m frame costs marks fields-good bound f c k hf hc hk
+
+-- accepted bytes, read and written again, come back the same
+module _ (s f c k : List ℕ) (bs : Bytes s) {n m : ℕ} {f′ c′ k′ : List ℕ} (read : reading.outcome (Held n m) f′ c′ k′ ≡ reading.reading s f c k) where
+  abbrev R : ℕ
+  R = refusal (readChecks s f c k)
+
+  read-quiet : R ≡ 0
+  unfolding reading.reading reading.number
+  read-quiet = split (ℕ-discrete R 0)
+    where
+      split : Dec (R ≡ 0) → R ≡ 0
+      split (yes z) = z
+      split (no z) = let e : reading.outcome (Held n m) f′ c′ k′ ≡ reading.outcome (NotRead R) f c k = read ∙ simp (ne-eqb R 0 z) in sym (ap (λ (o : reading.Outcome). reading.number (o .answer)) e)
+
+  sheet-good : judgeSheet s ≡ 0
+  unfolding readChecks judgeSheet
+  sheet-good = neither (refusal (sheetChecks s)) _ (sym (refusal-append (sheetChecks s) _) ∙ read-quiet) .0
+
+  whole-read : reading.outcome (Held n m) f′ c′ k′ ≡ reading.outcome (Held (columnsOf s) (stepsOf s)) (over (frameOf (ofSheet s)) f) (over (costsOf (ofSheet s)) c) (over (marksOf (ofSheet s)) k)
+  unfolding reading.reading
+  whole-read = read ∙ simp (eq-eqb R 0 read-quiet)
+
+  pub model-bytes-back : (sheet₀ : List ℕ) → length s ≤ length sheet₀ → {r : SheetWritten} {s′ : List ℕ} → writing.outcome r s′ ≡ writing.writing (ofTables n m f′ c′ k′) sheet₀
+      → writing.outcome r s′ ≡ writing.outcome (Sheet (length s)) (over s sheet₀)
+  unfolding tablesTold columnsTold stepsTold
+  model-bytes-back sheet₀ h wrote = wrote ∙ ap (λ (o : reading.Outcome). writing.writing (tablesTold o) sheet₀) whole-read ∙ tables.bytes-back s sheet-good bs f c k sheet₀ h
+
+-- ---- the cut sheet
+
+-- written and read back: the sheet is accepted with its model, and has the writer's cuts
+module _ (model : List ℕ) (count : ℕ) (cuts sheet₀ : List ℕ) {b : ℕ} {s : List ℕ} (wrote : cutWriting.outcome (CutSheet b) s ≡ cutWriting.writingCuts model count cuts sheet₀) where
+  abbrev K : ℕ
+  K = refusal (writeCutsChecks model count cuts sheet₀)
+
+  cuts-quiet : K ≡ 0
+  unfolding cutWriting.writingCuts cutWriting.number
+  cuts-quiet = split (ℕ-discrete K 0)
+    where
+      split : Dec (K ≡ 0) → K ≡ 0
+      split (yes z) = z
+      split (no z) = let e : cutWriting.outcome (CutSheet b) s ≡ cutWriting.outcome (CutsRefused K) sheet₀ = wrote ∙ simp (ne-eqb K 0 z) in sym (ap (λ (o : cutWriting.Outcome). cutWriting.number (o .answer)) e)
+
+  given-quiet : (judgeSheet model ≡ 0) × (judged (cutEntries (taskOn model) (ofCuts count cuts)) ≡ 0)
+  unfolding writeCutsChecks givenChecks judgeSheet judged
+  given-quiet =
+      let g : refusal (givenChecks model count cuts) ≡ 0 = neither (refusal (givenChecks model count cuts)) _ (sym (refusal-append (givenChecks model count cuts) _) ∙ cuts-quiet) .0 in
+      neither (refusal (sheetChecks model)) _ (sym (refusal-append (sheetChecks model) _) ∙ g)
+
+  whole-cuts : cutWriting.outcome (CutSheet b) s ≡ cutWriting.outcome (CutSheet (length model + cutBytes count)) (over (cutSheetOf model count cuts) sheet₀)
+  unfolding cutWriting.writingCuts
+  whole-cuts = wrote ∙ simp (eq-eqb K 0 cuts-quiet)
+
+  model-good : Accepted (taskOn model)
+  unfolding taskOn
+  model-good = accepted-task model (given-quiet .0)
+
+  -- the lent bytes begin with the cut sheet
+  pub cut-sheet-is : s ≡ over (cutSheetOf model count cuts) sheet₀
+  cut-sheet-is = ap (λ (o : cutWriting.Outcome). o .sheet) whole-cuts
+
+  pub cuts-back : ((i : ℕ) → i < count → getD cuts (i * 3 + 2) 0 < 2 ^ 32) → (refusal (cutSheetChecks model (cutSheetOf model count cuts)) ≡ 0) × (cutsOf (cutSheetOf model count cuts) ≡ cutsNamed (cutLent cuts) count)
+  cuts-back sets = (
+    round.written-accepted model count cuts model-good (given-quiet .0) (given-quiet .1) sets,
+    round.written-cuts model count cuts model-good (given-quiet .0) (given-quiet .1) sets,
+  )
+
+-- accepted bytes: the cuts that were read, written again with the model, are the same bytes
+module _ (model s : List ℕ) (bs : Bytes s) (ok : refusal (cutSheetChecks model s) ≡ 0) (sheet₀ : List ℕ) {b : ℕ} {s′ : List ℕ} (wrote : cutWriting.outcome (CutSheet b) s′ ≡ cutWriting.writingCuts model (countOf (tailOf s)) (cutList s) sheet₀) where
+  pub cut-bytes-back : s′ ≡ over s sheet₀
+  cut-bytes-back = cut-sheet-is-here ∙ ap (λ (x : List ℕ). over x sheet₀) (round.read-write model s ok bs)
+    where
+      cut-sheet-is-here : s′ ≡ over (cutSheetOf model (countOf (tailOf s)) (cutList s)) sheet₀
+      cut-sheet-is-here = cut-sheet-is model (countOf (tailOf s)) (cutList s) sheet₀ wrote
