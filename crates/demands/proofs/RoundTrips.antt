@@ -25,15 +25,23 @@ use Rattle.task.specs.Task.{Accepted}
 use Rattle.sheets.specs.Holding.{taskOn}
 use Rattle.sheets.proofs.RoundLaws.{written-length}
 use Rattle.sheet_laws.proofs.Held.{accepted-task}
-use Rattle.cut_sheets.specs.CutPart.{cutsNamed, cutEntries, cutBytes, countOf}
-use Rattle.cut_sheets.specs.CutSheet.{tailOf, cutSheetChecks, cutsOf, cutList, cutLent, ofCuts, cutSheetOf, givenChecks, writeCutsChecks}
+use Rattle.fields.proofs.PlaceLaws.{each-length}
+use Rattle.cut_sheets.specs.CutPart.{cutsNamed, cutEntries, cutBytes, countOf, cutOn}
+use Rattle.cut_sheets.specs.CutSheet.{tailOf, cutSheetChecks, cutsOf, cutList, cutLent, cutValues, rebuildChecks, ofCuts, cutSheetOf, givenChecks, writeCutsChecks}
 use Rattle.cut_sheets.proofs.CutSheetLaws as round
+use Rattle.cut_reading.specs.declared.CutsRebuilt.{CutsRebuilt}
+use Rattle.cut_reading.specs.declared.CutsRebuilt.the-variants.{Cuts, Refused as NotRebuilt}
+use Rattle.cut_reading.specs.Rebuilding as rebuilding
 use Rattle.cut_writing.specs.declared.CutsWritten.the-variants.{Sheet as CutSheet, Refused as CutsRefused}
 use Rattle.cut_writing.specs.CutWriting as cutWriting
 
 bytesTold : SheetWritten → ℕ
 bytesTold (Sheet n) = n
 bytesTold (Refused n) = 0
+
+cutsTold : CutsRebuilt → ℕ
+cutsTold (Cuts n) = n
+cutsTold (NotRebuilt k) = 0
 
 columnsTold : ModelRead → ℕ
 columnsTold (Held n m) = n
@@ -158,10 +166,46 @@ module _ (model : List ℕ) (count : ℕ) (cuts sheet₀ : List ℕ) {b : ℕ} {
     round.written-cuts model count cuts model-good (given-quiet .0) (given-quiet .1) sets,
   )
 
--- accepted bytes: the cuts that were read, written again with the model, are the same bytes
-module _ (model s : List ℕ) (bs : Bytes s) (ok : refusal (cutSheetChecks model s) ≡ 0) (sheet₀ : List ℕ) {b : ℕ} {s′ : List ℕ} (wrote : cutWriting.outcome (CutSheet b) s′ ≡ cutWriting.writingCuts model (countOf (tailOf s)) (cutList s) sheet₀) where
-  pub cut-bytes-back : s′ ≡ over s sheet₀
-  cut-bytes-back = cut-sheet-is-here ∙ ap (λ (x : List ℕ). over x sheet₀) (round.read-write model s ok bs)
+-- accepted bytes: the cuts that were rebuilt, written again with the model, are the same bytes
+module _ (model s c₀ : List ℕ) (bs : Bytes s) {n : ℕ} {c : List ℕ} (rebuilt : rebuilding.outcome (Cuts n) c ≡ rebuilding.rebuilding model s c₀) where
+  abbrev Q : ℕ
+  Q = refusal (rebuildChecks model s c₀)
+
+  rebuild-quiet : Q ≡ 0
+  unfolding rebuilding.rebuilding rebuilding.number
+  rebuild-quiet = split (ℕ-discrete Q 0)
     where
-      cut-sheet-is-here : s′ ≡ over (cutSheetOf model (countOf (tailOf s)) (cutList s)) sheet₀
-      cut-sheet-is-here = cut-sheet-is model (countOf (tailOf s)) (cutList s) sheet₀ wrote
+      split : Dec (Q ≡ 0) → Q ≡ 0
+      split (yes z) = z
+      split (no z) = let e : rebuilding.outcome (Cuts n) c ≡ rebuilding.outcome (NotRebuilt Q) c₀ = rebuilt ∙ simp (ne-eqb Q 0 z) in sym (ap (λ (o : rebuilding.Outcome). rebuilding.number (o .answer)) e)
+
+  pub cut-sheet-good : refusal (cutSheetChecks model s) ≡ 0
+  unfolding rebuildChecks
+  cut-sheet-good = neither (refusal (cutSheetChecks model s)) _ (sym (refusal-append (cutSheetChecks model s) _) ∙ rebuild-quiet) .0
+
+  whole-rebuild : rebuilding.outcome (Cuts n) c ≡ rebuilding.outcome (Cuts (countOf (tailOf s))) (over (cutList s) c₀)
+  unfolding rebuilding.rebuilding
+  whole-rebuild = rebuilt ∙ simp (eq-eqb Q 0 rebuild-quiet)
+
+  same-count : n ≡ countOf (tailOf s)
+  unfolding cutsTold
+  same-count = ap (λ (o : rebuilding.Outcome). cutsTold (o .answer)) whole-rebuild
+
+  list-long : length (cutList s) ≡ countOf (tailOf s) * 3
+  unfolding cutList
+  list-long = each-length (cutValues (cutOn (tailOf s))) 3 (round.values-length (cutOn (tailOf s))) (countOf (tailOf s))
+
+  -- the places that were filled are the sheet's cuts
+  pub cuts-are : take (n * 3) c ≡ cutList s
+  cuts-are =
+      ap (λ (k : ℕ). take (k * 3) c) same-count
+      ∙ ap (λ (k : ℕ). take k c) (sym list-long)
+      ∙ ap (λ (o : rebuilding.Outcome). take (length (cutList s)) (o .cuts)) whole-rebuild
+      ∙ front-of (cutList s) c₀
+
+  pub cut-bytes-back : (sheet₀ : List ℕ) {b : ℕ} {s′ : List ℕ} → cutWriting.outcome (CutSheet b) s′ ≡ cutWriting.writingCuts model n (take (n * 3) c) sheet₀ → s′ ≡ over s sheet₀
+  cut-bytes-back sheet₀ wrote =
+      cut-sheet-is model n (take (n * 3) c) sheet₀ wrote
+      ∙ ap (λ (k : ℕ). over (cutSheetOf model k (take (n * 3) c)) sheet₀) same-count
+      ∙ ap (λ (x : List ℕ). over (cutSheetOf model (countOf (tailOf s)) x) sheet₀) cuts-are
+      ∙ ap (λ (x : List ℕ). over x sheet₀) (round.read-write model s cut-sheet-good bs)
