@@ -1,5 +1,5 @@
--- Demand 2: "Sheets written and read back give the same model and cuts, and accepted bytes come back the same." Each theorem has the contract of
--- the writer and of the reader as its premises. A list that is lent may be longer than what is put in it; the sheet is its first bytes.
+-- Demand 2: "Sheets written and read back give the same model and cuts, and accepted bytes come back the same." The writer's contract is a premise of
+-- each, and the reader's of all but `cuts-back`. A list that is lent may be longer than what is put in it; the sheet is its first bytes.
 use Prim.Native.Nat.{ℕ, _+_, _*_, _^_, _≤_, _<_}
 use native.Mathlib.Decide.{ℕ-discrete}
 use mathlib.Core.Path.{_≡_, sym, ap, _∙_}
