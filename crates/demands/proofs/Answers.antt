@@ -2,13 +2,13 @@
 -- and no plan is cheaper. 'No plan' is said only where none exists. For any accepted cut list, a state's estimate is the abstract distance as 01
 -- defines it, and no plan from that state costs less. Sheets written and read back give the same model and cuts, and accepted bytes come back the same."
 -- For whoever knows only the contracts. The task is that of `task/specs/Task`: `IsPlan` is "can be carried out from the start and reaches the goal".
-use Prim.Native.Nat.{ℕ, _+_, _*_, _^_, _≤_, _<_}
+use Prim.Native.Nat.{ℕ, _+_, _<_}
 use native.Mathlib.Omega.{arith}
-use mathlib.Core.Path.{_≡_, refl, sym, ap, _∙_}
+use mathlib.Core.Path.{_≡_, refl}
 use mathlib.Core.Bool.{true}
-use mathlib.Core.List.{List, [], _∷_}
+use mathlib.Core.List.{List}
 use mathlib.Core.Option.{some, Option·map}
-use lib.ListN.{length, getD, take}
+use lib.ListN.{getD}
 use Rattle.task.specs.declared.Step.{Step}
 use Rattle.task.specs.Task.{Task, State, columnCount, stepCount, costOf, canTake, taken, reaches, costs}
 use Rattle.distances.specs.Distances.{NoMore, estimate}

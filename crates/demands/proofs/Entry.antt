@@ -12,9 +12,8 @@ use Rattle.task.specs.declared.Step.{Step}
 use Rattle.task.specs.Loops.{over}
 use Rattle.task.specs.Task.{Task, State, Accepted, stateCount, costOf, isState, start, costs}
 use Rattle.task.proofs.TaskLaws.{start-state}
-use Rattle.task.proofs.LoopLaws.{and-left, and-right, and-both}
 use Rattle.blocks.specs.declared.Cut.{Cut}
-use Rattle.blocks.specs.Blocks.{Blocks, whole, cutBlock, cutOk, cutsOk, accepted}
+use Rattle.blocks.specs.Blocks.{accepted}
 use Rattle.blocks.proofs.FollowLaws.{accepted-less}
 use Rattle.distances.specs.Distances.{NoMore, estimate}
 use Rattle.distances.proofs.EstimateLaws.{estimate-bound, estimates-never-fall}
@@ -32,18 +31,7 @@ use Rattle.running.specs.Running.{told}
 use Rattle.historian.specs.Entries.{bytesOf, answerNumber, entryChecks, RunOutcome, runOutcome, madeBytes, runEntry}
 use Rattle.demands.proofs.Numbers.{kind, blocks, steps, value, Parts, takes-apart, entry-low}
 use Rattle.demands.proofs.Refusals.{entry-made, entry-refused}
-
--- an accepted list's front is accepted
-front : (t : Task) (a b : List Cut) (bs : Blocks) → cutsOk t bs (a ++ b) ≡ true → cutsOk t bs a ≡ true
-unfolding cutsOk
-front t [] b bs h = refl
-front t (c ∷ a) b bs h =
-    let r : cutsOk t (cutBlock bs c) (a ++ b) ≡ true = and-right (cutOk t bs c) (cutsOk t (cutBlock bs c) (a ++ b)) h in
-    and-both (and-left (cutOk t bs c) (cutsOk t (cutBlock bs c) (a ++ b)) h) (front t a b (cutBlock bs c) r)
-
-accepted-front : (t : Task) (a b : List Cut) → accepted t (a ++ b) ≡ true → accepted t a ≡ true
-unfolding accepted
-accepted-front t a b h = front t a b (whole t ∷ []) h
+use Rattle.run_laws.proofs.Answers.{accepted-front}
 
 costs-few : (t : Task) → ((s : Step) → costOf t s ≤ 65535) → (ss : List Step) → costs t ss ≤ length ss * 65535
 unfolding costs

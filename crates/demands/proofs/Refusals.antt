@@ -4,7 +4,7 @@
 -- check does, and then the answer is that refusal and everything lent is as found. No theorem asks anything of what is passed.
 -- "Nothing reads or writes outside what was lent, and every call ends": the prover shows it of every function before its contract counts, and it
 -- cannot be stated in here.
-use Prim.Native.Nat.{ℕ, _+_, _*_, _^_, _≤_, _<_}
+use Prim.Native.Nat.{ℕ, _^_, _≤_, _<_}
 use native.Mathlib.Omega.{arith}
 use native.Mathlib.Decide.{ℕ-discrete}
 use mathlib.Core.Path.{_≡_, refl, sym, ap, _∙_}

@@ -63,7 +63,7 @@ front t (c ∷ a) b bs h =
     let r : cutsOk t (cutBlock bs c) (a ++ b) ≡ true = and-right (cutOk t bs c) (cutsOk t (cutBlock bs c) (a ++ b)) h in
     and-both (and-left (cutOk t bs c) (cutsOk t (cutBlock bs c) (a ++ b)) h) (front t a b (cutBlock bs c) r)
 
-accepted-front : (t : Task) (a b : List Cut) → accepted t (a ++ b) ≡ true → accepted t a ≡ true
+pub accepted-front : (t : Task) (a b : List Cut) → accepted t (a ++ b) ≡ true → accepted t a ≡ true
 unfolding accepted
 accepted-front t a b h = front t a b (whole t ∷ []) h
 
