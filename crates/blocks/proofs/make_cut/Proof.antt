@@ -1,3 +1,4 @@
+use mathlib.Core.Path.{refl}
 use Rattle.blocks.specs.Blocks.{common, without}
 use Rattle.blocks.specs.Flat.{past, cutIn}
 use borrow.Author.Needs.{needs}
@@ -66,7 +67,7 @@ element-write-sets-2 c = search needs
 -- src/lib.rt:124:1
 returns : tie.Need-returns
 unfolding cutIn past common without
-returns c = rw (c .copy-row .ensures)
+returns c = rw (c .copy-row .ensures) refl
 
 pub make-cut-spec : {M : Type 1} → statement M
 make-cut-spec =
