@@ -80,6 +80,7 @@ module _ (s : List ℕ) (room : ℕ) (c r : List ℕ) where
     pub record NotRan : Type 0 where
       pub bad : refusal (runChecks s room c r) ≡ 0 → ⊥
       pub answer : a ≡ Refused (refusal (runChecks s room c r))
+      pub same-cuts : c′ ≡ c
 
   -- what the code that goes on has to know
   pub record Known (a : Answer) (c′ r′ : List ℕ) : Type 0 where
@@ -100,17 +101,17 @@ module _ (s : List ℕ) (room : ℕ) (c r : List ℕ) where
             inl (record { ok = z; answer = ap (λ (x : running.Outcome). x .answer) m; cut-list = ap (λ (x : running.Outcome). x .cuts) m; row-list = ap (λ (x : running.Outcome). x .rows) m })
         split (no z) =
             let m : outcome a c′ r′ ≡ outcome (Refused (refusal (runChecks s room c r))) c r = e ∙ simp (ne-eqb (refusal (runChecks s room c r)) 0 z) in
-            inr (record { bad = z; answer = ap (λ (x : running.Outcome). x .answer) m })
+            inr (record { bad = z; answer = ap (λ (x : running.Outcome). x .answer) m; same-cuts = ap (λ (x : running.Outcome). x .cuts) m })
 
     module _ (w : Ran a c′ r′) where
       parts : (refusal (sheetChecks s) ≡ 0) × (refusal (roomChecks room c r) ≡ 0)
       unfolding runChecks
       parts = neither (refusal (sheetChecks s)) (refusal (roomChecks room c r)) (sym (refusal-append (sheetChecks s) (roomChecks room c r)) ∙ w .ok)
 
-      fits : Fits room c r
+      pub fits : Fits room c r
       fits = room-fits room c r (parts .1)
 
-      accepted : Accepted t
+      pub accepted : Accepted t
       unfolding taskOn
       accepted = accepted-task s (unfold judgeSheet in parts .0)
 

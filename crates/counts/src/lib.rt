@@ -1,6 +1,6 @@
 // How many values an answer's cuts and rows take in the lists.
 ghost use mathlib.Core.Path.{_≡_};
-ghost use Rattle.counts.specs.Counts.{cutValues, rowValues, Counted};
+ghost use Rattle.counts.specs.Counts.{cutValues, rowValues, Counted, usable};
 use planner::Answer;
 
 // How many values the cuts of an answer take: there is one cut less than blocks.
@@ -41,4 +41,14 @@ pub fn row_values(answer: Answer) -> usize
         } => 0,
         Answer::Refused(_) => 0,
     }
+}
+
+// How many of the places lent can matter where no more than most can be used.
+pub fn usable_places(most: usize, places: usize) -> usize
+    ensures { λ r. ⌜ r ≡ usable most places ⌝ }
+{
+    if most < places {
+        return most;
+    }
+    places
 }

@@ -1,0 +1,40 @@
+-- Places that can matter: all that are lent, or as many as can be used.
+use Prim.Native.Nat.{ℕ, _≤_, _<_}
+use native.Mathlib.Omega.{arith}
+use native.Mathlib.Decide.{decLt}
+use mathlib.Core.Path.{_≡_, sym, _∙_}
+use lib.Dec.{ltb}
+use borrow.Author.Tests.{lt-ltb, le-ltb}
+use Rattle.counts.specs.Counts.{usable}
+
+module _ (n places : ℕ) where
+  pub many : n < places → n ≡ usable n places
+  unfolding usable
+  many h = simp (lt-ltb n places h)
+
+  pub all-of-them : places ≤ n → places ≡ usable n places
+  unfolding usable
+  all-of-them h = simp (le-ltb n places h)
+
+  pub record Usable : Type 0 where
+    pub few : usable n places ≤ n
+    pub there : usable n places ≤ places
+    pub enough : (k : ℕ) → k ≤ n → k ≤ places → k ≤ usable n places
+
+  pub usable-is : Usable
+  usable-is = split (decLt n places)
+    where
+      split : Dec (n < places) → Usable
+      split (yes h) = let e = many h in record { few = omega arith; there = omega arith; enough = λ k x y. omega arith }
+      split (no h) = let e = all-of-them (omega arith) in record { few = omega arith; there = omega arith; enough = λ k x y. omega arith }
+
+pub at-most : (n places : ℕ) {m : ℕ} → m ≡ usable n places → m ≤ n
+at-most n places e = omega (arith, usable-is n places .few)
+
+-- two tests that say the same
+pub same-test : (a b c d : ℕ) → (a < b → c < d) → (b ≤ a → d ≤ c) → ltb a b ≡ ltb c d
+same-test a b c d f g = split (decLt a b)
+  where
+    split : Dec (a < b) → ltb a b ≡ ltb c d
+    split (yes h) = lt-ltb a b h ∙ sym (lt-ltb c d (f h))
+    split (no h) = le-ltb a b (omega arith) ∙ sym (le-ltb c d (g (omega arith)))

@@ -1,0 +1,14 @@
+use Rattle.counts.proofs.UsableLaws.{many, all-of-them}
+use Rattle.counts.proofs.usable_places.Statement.{statement}
+use Rattle.counts.proofs.usable_places.Tie as tie
+use Rattle.counts.proofs.usable_places.Reads as reads
+use Rattle.counts.proofs.usable_places.Lts as lts
+
+returns : tie.Need-returns
+returns c = many (c .before .args .most) (c .before .args .places) (c .if1 .taken)
+
+returns-2 : tie.Need-returns-2
+returns-2 c = all-of-them (c .before .args .most) (c .before .args .places) (c .if1 .left)
+
+pub usable-places-spec : {M : Type 1} → statement M
+usable-places-spec = tie.close (tie.spec returns returns-2)

@@ -1,0 +1,76 @@
+-- 01, "A run" and "Places and their forms": the rows of the change sheet in a lent list of rows.
+use Prim.Native.Nat.{ℕ, _+_, _-_, _*_, _/_}
+use mathlib.Core.Bool.{Bool}
+use mathlib.Core.List.{List, [], _∷_, _++_}
+use lib.Dec.{eqb, ltb}
+use lib.ListN.{length, getD}
+use Rattle.task.specs.Loops.{all, tab, over}
+use Rattle.task.specs.Sizes.{limits}
+use Rattle.task.specs.Task.{step}
+use Rattle.fields.specs.Judging.{Check, check, outside, pick, refusal}
+use Rattle.sheets.specs.ModelSheet.{sheetChecks}
+use Rattle.sheets.specs.Holding.{taskOn}
+use Rattle.sheets.specs.LentTables.{tooFew}
+use Rattle.run.specs.declared.Row.{Row}
+use Rattle.run.specs.Run as run
+use Rattle.run.specs.Run.{blocksIn, rowsOf}
+use Rattle.refining.specs.Listing.{listed, cutPlace}
+use Rattle.running.specs.declared.Answer.{Answer}
+use Rattle.running.specs.declared.Answer.the-variants.{Plan, NoPlan, Open, Refused}
+use Rattle.running.specs.Running.{told}
+
+-- ---- rows put from a list of values, three for each: step, tenths, tenths left
+
+unfoldable pub rowIn : List ℕ → ℕ → Row
+rowIn vs i = record { step = step (getD vs (i * 3) 0); tenths = getD vs (i * 3 + 1) 0; left = getD vs (i * 3 + 2) 0 }
+
+-- the first n rows each name a step
+unfoldable pub stepsNamed : List ℕ → ℕ → Bool
+stepsNamed vs n = all n (λ i. ltb (getD vs (i * 3) 0) (limits .steps))
+
+-- n, where n rows have places and n rows' values are there, each with a step; else none
+unfoldable pub fitting : ℕ → List ℕ → ℕ → ℕ
+fitting places vs n = pick (ltb places n) 0 (pick (ltb (length vs / 3) n) 0 (pick (stepsNamed vs n) n 0))
+
+pub record Filled : Type 0 where
+  pub count : ℕ
+  pub rows : List Row
+
+abbrev pub filled : ℕ → List Row → Filled
+filled n rows = record { count = n; rows = rows }
+
+-- n rows or none, over the front of the list; places past the last one used stay untouched
+unfoldable pub filling : List Row → List ℕ → ℕ → Filled
+filling rows vs n = let m = fitting (length rows) vs n in filled m (over (tab m (rowIn vs)) rows)
+
+-- ---- a run whose rows are lent so
+
+-- the sheet, then 7, then 8: cuts and rows each need room less 1 places
+unfoldable pub rowChecks : List ℕ → ℕ → List ℕ → List Row → List Check
+rowChecks s room cuts rows =
+    sheetChecks s ++ (check 7 (outside 1 (limits .blocks) room) ∷ tooFew ((room - 1) * 3) cuts ∷ check 8 (ltb (length rows) (room - 1)) ∷ [])
+
+pub record Outcome : Type 0 where
+  pub answer : Answer
+  pub cuts : List ℕ
+  pub rows : List Row
+
+abbrev pub outcome : Answer → List ℕ → List Row → Outcome
+outcome a cuts rows = record { answer = a; cuts = cuts; rows = rows }
+
+-- the answer, the cuts over the front of one list and a plan's rows over that of the other; a refusal changes nothing lent
+unfoldable pub rowRun : List ℕ → ℕ → List ℕ → List Row → Outcome
+rowRun s room cuts rows =
+    let n = refusal (rowChecks s room cuts rows) in
+    let t = taskOn s in
+    let o = run.run t room in
+    pick (eqb n 0) (outcome (told t (blocksIn o) (o .answer)) (over (listed cutPlace (o .made)) cuts) (over (rowsOf t (o .answer)) rows)) (outcome (Refused n) cuts rows)
+
+-- ---- what code counts
+
+-- a plan has one row for each step
+unfoldable pub rowCount : Answer → ℕ
+rowCount (Plan cost steps blocks) = steps
+rowCount (NoPlan blocks) = 0
+rowCount (Open estimate blocks) = 0
+rowCount (Refused n) = 0
