@@ -5,3 +5,4 @@ pub mod Entry
 pub mod Answers
 pub mod RoundTrips
 pub mod Cuts
+pub mod Rows

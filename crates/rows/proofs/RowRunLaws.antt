@@ -84,7 +84,7 @@ module _ (s : List ℕ) (room : ℕ) (cuts : List ℕ) (lent : List Row) (list :
       good : outside 1 256 room ≡ false → RoomSame
       good h = ap (λ (x : Bool). refusal (check 7 (outside 1 256 room) ∷ tooFew ((room - 1) * 3) cuts ∷ check 8 x ∷ [])) (few-same (inside-means 1 256 room h .1))
 
-  checks-same : refusal (rowChecks s room cuts lent) ≡ refusal (runChecks s room cuts list)
+  pub checks-same : refusal (rowChecks s room cuts lent) ≡ refusal (runChecks s room cuts list)
   unfolding rowChecks runChecks
   checks-same = refusal-append (sheetChecks s) _ ∙ ap (λ (x : ℕ). refusal (sheetChecks s) then x) room-same ∙ sym (refusal-append (sheetChecks s) (roomChecks room cuts list))
 

@@ -1,0 +1,146 @@
+-- The demands of the run whose rows are lent as structs, and of the function that puts them: one outcome, each refusal exactly, and the answers of
+-- `run` with the plan's rows in the list. For whoever knows only the contracts of crate `rows`.
+use Prim.Native.Nat.{ℕ, _*_}
+use native.Mathlib.Omega.{arith}
+use native.Mathlib.Decide.{ℕ-discrete}
+use mathlib.Core.Path.{_≡_, refl, sym, ap, _∙_, subst}
+use mathlib.Core.Logic.{_↔_}
+use mathlib.Core.List.{List}
+use mathlib.Core.Option.{some}
+use lib.ListN.{length, replicate, length-replicate}
+use borrow.Author.Tests.{eq-eqb, ne-eqb}
+use Rattle.task.specs.declared.Step.{Step}
+use Rattle.task.specs.Loops.{over}
+use Rattle.task.specs.Task.{Task, start, costs}
+use Rattle.blocks.specs.declared.Cut.{Cut}
+use Rattle.distances.specs.Distances.{estimate}
+use Rattle.fields.specs.Judging.{refusal}
+use Rattle.fields.proofs.ExactLaws.{FirstToApply, Numbered, numbered-append, applies-first, first-refuses}
+use Rattle.sheets.specs.ModelSheet.{sheetChecks}
+use Rattle.sheets.specs.Holding.{taskOn}
+use Rattle.sheet_laws.proofs.Refusals.{numbered-sheet}
+use Rattle.run.specs.declared.Row.{Row}
+use Rattle.run.specs.Run as run
+use Rattle.run.specs.Run.{plan, noPlan, «open», rows, rowsOf, blocksIn}
+use Rattle.run.proofs.RunLaws.{Cheapest, NoPlan as NonePlans, Right, run-right}
+use Rattle.refining.specs.Listing.{listed, cutPlace}
+use Rattle.running.specs.declared.Answer.{Answer}
+use Rattle.running.specs.declared.Answer.the-variants.{Plan, NoPlan, Open, Refused}
+use Rattle.running.specs.Running as running
+use Rattle.running.specs.Running.{told, number}
+use Rattle.run_laws.proofs.Refusals.{told-number}
+use Rattle.run_laws.proofs.Answers as said
+use Rattle.counts.specs.Counts.{usable}
+use Rattle.rows.specs.Rows as lent
+use Rattle.rows.specs.Rows.{filled, filling, rowChecks, outcome, rowRun}
+use Rattle.rows.proofs.RowRunLaws.{checks-same}
+
+-- ---- one outcome
+
+-- put_rows
+pub put-rows-one : (rs : List Row) (values : List ℕ) (n : ℕ) {k k′ : ℕ} {l l′ : List Row} → filled k l ≡ filling rs values n → filled k′ l′ ≡ filling rs values n → (k ≡ k′) × (l ≡ l′)
+put-rows-one rs values n p q =
+    let e = p ∙ sym q in
+    (ap (λ (o : lent.Filled). o .count) e, ap (λ (o : lent.Filled). o .rows) e)
+
+-- run
+pub row-run-one : (s : List ℕ) (room : ℕ) (cuts : List ℕ) (rs : List Row) {a a′ : Answer} {c c′ : List ℕ} {l l′ : List Row} → outcome a c l ≡ rowRun s room cuts rs → outcome a′ c′ l′ ≡ rowRun s room cuts rs
+    → (a ≡ a′) × (c ≡ c′) × (l ≡ l′)
+row-run-one s room cuts rs p q =
+    let e = p ∙ sym q in
+    (ap (λ (o : lent.Outcome). o .answer) e, ap (λ (o : lent.Outcome). o .cuts) e, ap (λ (o : lent.Outcome). o .rows) e)
+
+-- ---- run
+
+-- a plan in the list: its steps, its cost, its rows, and that none is cheaper
+pub record RowsPlanned (t : Task) (cost count : ℕ) (before after : List Row) : Type 0 where
+  pub steps : List Step
+  pub count-is : count ≡ length steps
+  pub cost-is : cost ≡ costs t steps
+  pub shown : after ≡ over (rows t steps) before
+  pub cheapest : Cheapest t steps
+
+module _ (t : Task) (cs : List Cut) (before after : List Row) where
+  -- what an answer says of the rows
+  abbrev pub RowsSay : Answer → Type 0
+  RowsSay (Plan c n b) = RowsPlanned t c n before after
+  RowsSay (NoPlan b) = (after ≡ before) × NonePlans t
+  RowsSay (Open e b) = (after ≡ before) × (estimate t cs (start t) ≡ some e)
+  RowsSay (Refused n) = ⊥
+
+  rows-say : (room b : ℕ) (r : run.Answer) → Right t room cs r → after ≡ over (rowsOf t r) before → RowsSay (told t b r)
+  unfolding told rowsOf over
+  rows-say room b (plan ss) h e = record { steps = ss; count-is = refl; cost-is = refl; shown = e; cheapest = h }
+  rows-say room b noPlan h e = (e, h)
+  rows-say room b («open» k) h e = (e, h .2)
+
+module _ (s : List ℕ) (room : ℕ) (cuts : List ℕ) (rs : List Row) where
+  abbrev t : Task
+  t = taskOn s
+
+  abbrev o : run.Outcome
+  o = run.run t room
+
+  abbrev R : ℕ
+  R = refusal (rowChecks s room cuts rs)
+
+  numbered-rows : Numbered (rowChecks s room cuts rs)
+  unfolding rowChecks
+  numbered-rows = numbered-append (sheetChecks s) _ (numbered-sheet s) (λ z. omega arith, (λ z. omega arith, (λ z. omega arith, tt)))
+
+  rows-made : R ≡ 0 → rowRun s room cuts rs ≡ outcome (told t (blocksIn o) (o .answer)) (over (listed cutPlace (o .made)) cuts) (over (rowsOf t (o .answer)) rs)
+  unfolding rowRun
+  rows-made z = simp (eq-eqb R 0 z)
+
+  rows-refused : (R ≡ 0 → ⊥) → rowRun s room cuts rs ≡ outcome (Refused R) cuts rs
+  unfolding rowRun
+  rows-refused z = simp (ne-eqb R 0 z)
+
+  module _ {a : Answer} {c : List ℕ} {l : List Row} (done : outcome a c l ≡ rowRun s room cuts rs) where
+    same-number : number a ≡ R
+    unfolding number
+    same-number = split (ℕ-discrete R 0)
+      where
+        split : Dec (R ≡ 0) → number a ≡ R
+        split (yes z) = ap (λ (x : lent.Outcome). number (x .answer)) (done ∙ rows-made z) ∙ told-number t (blocksIn o) (o .answer) ∙ sym z
+        split (no z) = ap (λ (x : lent.Outcome). number (x .answer)) (done ∙ rows-refused z)
+
+    -- demand 1: a number is returned exactly when its row applies and no earlier check does, and then everything lent is as found
+    module _ (n : ℕ) (is : n ≡ 0 → ⊥) where
+      pub row-run-exactly : (number a ≡ n) ↔ FirstToApply (rowChecks s room cuts rs) n
+      row-run-exactly = (
+        λ e. applies-first (rowChecks s room cuts rs) numbered-rows n is (sym same-number ∙ e),
+        λ f. same-number ∙ first-refuses (rowChecks s room cuts rs) n is f,
+      )
+
+      pub row-run-leaves : number a ≡ n → outcome a c l ≡ outcome (Refused n) cuts rs
+      row-run-leaves e =
+          let q : R ≡ n = sym same-number ∙ e in
+          done ∙ rows-refused (λ z. is (sym q ∙ z)) ∙ ap (λ (k : ℕ). outcome (Refused k) cuts rs) q
+
+    -- demands 2 and 3 of the answer and the cuts: it is `run`, with a list of values for as many places
+    module _ (kept : number a ≡ 0) where
+      abbrev values : List ℕ
+      values = replicate (usable 255 (length rs) * 3) 0
+
+      abbrev ending : running.Outcome
+      ending = running.running s room cuts values
+
+      same-made : outcome a c l ≡ outcome (told t (blocksIn o) (o .answer)) (over (listed cutPlace (o .made)) cuts) (over (rowsOf t (o .answer)) rs)
+      same-made = done ∙ rows-made (sym same-number ∙ kept)
+
+      pub same-run : running.outcome a c (ending .rows) ≡ ending
+      unfolding running.running running.made
+      same-run =
+          let z : refusal (running.runChecks s room cuts values) ≡ 0 = sym (checks-same s room cuts rs values (length-replicate {A = ℕ} (usable 255 (length rs) * 3) 0)) ∙ sym same-number ∙ kept in
+          simp (eq-eqb (refusal (running.runChecks s room cuts values)) 0 z)
+          (rw (ap (λ (x : lent.Outcome). x .answer) same-made, ap (λ (x : lent.Outcome). x .cuts) same-made) refl)
+
+      pub row-ran : said.Ran s room cuts values a c (ending .rows)
+      row-ran = said.run-says s room cuts values same-run kept
+
+      -- demand 2 of the rows
+      pub rows-right : RowsSay t (o .made) rs l a
+      rows-right =
+          subst (RowsSay t (o .made) rs l) (sym (ap (λ (x : lent.Outcome). x .answer) same-made))
+          (rows-say t (o .made) rs l room (blocksIn o) (o .answer) (run-right t (row-ran .model) room (row-ran .some) .right) (ap (λ (x : lent.Outcome). x .rows) same-made))
