@@ -4,27 +4,32 @@
 -- For whoever knows only the contracts. The task is that of `task/specs/Task`: `IsPlan` is "can be carried out from the start and reaches the goal".
 use Prim.Native.Nat.{ℕ, _+_, _<_}
 use native.Mathlib.Omega.{arith}
-use mathlib.Core.Path.{_≡_, refl}
-use mathlib.Core.Bool.{true}
-use mathlib.Core.List.{List}
+use mathlib.Core.Path.{_≡_, refl, sym, ap, _∙_, subst⁻¹}
+use mathlib.Core.Bool.{true, false}
+use mathlib.Core.List.{List, [], _∷_}
 use mathlib.Core.Option.{some, Option·map}
-use lib.ListN.{getD}
+use lib.ListN.{length, getD}
 use Rattle.task.specs.declared.Step.{Step}
+use Rattle.task.specs.Loops.{over}
 use Rattle.task.specs.Task.{Task, State, columnCount, stepCount, costOf, canTake, taken, reaches, costs}
+use Rattle.task.proofs.LoopLaws.{tab-at, tab-length}
 use Rattle.distances.specs.Distances.{NoMore, estimate}
 use Rattle.distances.proofs.EstimateLaws.{EstimateIs}
+use Rattle.fields.specs.Judging.{check, refusal}
+use Rattle.fields.proofs.JudgingLaws.{neither, passed, refusal-append}
 use Rattle.sheets.specs.Holding.{taskOn}
-use Rattle.cut_sheets.specs.CutSheet.{cutsOf}
+use Rattle.cut_sheets.specs.CutSheet.{cutSheetChecks, cutsOf}
 use Rattle.run.proofs.RunLaws.{NoPlan as NonePlans}
 use Rattle.running.specs.declared.Answer.the-variants.{Plan, NoPlan}
 use Rattle.running.specs.Running.{number, outcome, running}
 use Rattle.run_laws.proofs.Answers as said
 use Rattle.asking.specs.declared.Asked.the-variants.{Estimates}
 use Rattle.asking.specs.Question as question
-use Rattle.asking.specs.Question.{stateIn, valued, asking}
+use Rattle.asking.specs.Question.{stateIn, statesIn, badStates, estimateAt, estimatesOf, valued, asking}
 use Rattle.question_laws.proofs.Estimates as estimates
-use Rattle.historian.specs.Entries.{runOutcome, runEntry}
-use Rattle.demands.proofs.Numbers.{kind}
+use Rattle.historian.specs.Entries.{bytesOf, fewPlaces, runOutcome, runEntry, askChecks, AskOutcome, askOutcome, askEntry}
+use Rattle.demands.proofs.Numbers.{kind, valueOn, value-back}
+use Rattle.demands.proofs.Refusals.{ask-made, ask-number}
 use Rattle.demands.proofs.Entry as entry
 
 -- ---- "A plan can be carried out from the start, reaches the goal, and no plan is cheaper", and its rows are in the list
@@ -53,12 +58,68 @@ module _ (model s states est : List ℕ) {n : ℕ} {next : List ℕ} (done : que
   abbrev x : State
   x = stateIn (columnCount t) states k
 
-  pub estimate-is-distance : EstimateIs t (estimates.model-accepted model s states est done) (cutsOf s) (estimates.cuts-accepted model s states est done) x (valued (getD next k 0))
-  estimate-is-distance = estimates.estimates-right model s states est done k below .distance
+  abbrev fine : refusal (cutSheetChecks model s) ≡ 0
+  fine = estimates.sheets-fine model s states est done
+
+  right : estimates.Answered model s fine x (getD next k 0)
+  right = estimates.estimates-right model s states est done k below
+
+  pub estimate-is-distance : EstimateIs t (estimates.model-accepted model s fine) (cutsOf s) (estimates.cuts-accepted model s fine) x (valued (getD next k 0))
+  estimate-is-distance = right .distance
 
   pub estimate-below : (ss : List Step) → reaches t x ss ≡ true → NoMore (valued (getD next k 0)) (some (costs t ss))
-  estimate-below = estimates.estimates-right model s states est done k below .below
+  estimate-below = right .below
 
   -- and along every step it falls by no more than the step costs
   pub estimate-consistent : (a : Step) → a .0 < stepCount t → canTake t a x ≡ true → NoMore (valued (getD next k 0)) (Option·map (λ e. costOf t a + e) (estimate t (cutsOf s) (taken t a x)))
-  estimate-consistent = estimates.estimates-right model s states est done k below .consistent
+  estimate-consistent = right .consistent
+
+-- the same of the historian's question: 0 is returned, and the values stand in the bytes
+module _ (model s states est : List ℕ) {r : ℕ} {l : List ℕ} (done : askOutcome r l ≡ askEntry model s states est) (answered : r ≡ 0) where
+  abbrev u : Task
+  u = taskOn model
+
+  quiet : refusal (askChecks model s states est) ≡ 0
+  quiet = sym (ap (λ (o : AskOutcome). o .answer) done ∙ ask-number model s states est) ∙ answered
+
+  parts : (refusal (cutSheetChecks model s) ≡ 0) × (refusal (check 11 (badStates u states) ∷ fewPlaces (statesIn u states) 4 est ∷ []) ≡ 0)
+  unfolding askChecks
+  parts = neither (refusal (cutSheetChecks model s)) _ (sym (refusal-append (cutSheetChecks model s) _) ∙ quiet)
+
+  pub sheets-fine : refusal (cutSheetChecks model s) ≡ 0
+  sheets-fine = parts .0
+
+  good : badStates u states ≡ false
+  good = passed 11 (badStates u states) _ (λ z. omega arith) (parts .1) .0
+
+  -- one value for each state, over the front of the bytes
+  pub entry-estimates-written : l ≡ over (bytesOf (estimatesOf u (cutsOf s) states)) est
+  entry-estimates-written = ap (λ (o : AskOutcome). o .estimates) (done ∙ ask-made model s states est quiet)
+
+  pub entry-one-each : length (estimatesOf u (cutsOf s) states) ≡ statesIn u states
+  unfolding estimatesOf
+  entry-one-each = tab-length (statesIn u states) (estimateAt u (cutsOf s) states)
+
+  module _ (k : ℕ) (below : k < statesIn u states) where
+    abbrev y : State
+    y = stateIn (columnCount u) states k
+
+    -- what a C program takes from the four bytes
+    pub entry-value : valueOn l k ≡ estimateAt u (cutsOf s) states k
+    unfolding estimatesOf
+    entry-value =
+        let e : getD (estimatesOf u (cutsOf s) states) k 0 ≡ estimateAt u (cutsOf s) states k = tab-at (statesIn u states) (estimateAt u (cutsOf s) states) 0 k below in
+        let b = estimates.value-most model s sheets-fine states good k below in
+        ap (λ (x : List ℕ). valueOn x k) entry-estimates-written ∙ value-back (estimatesOf u (cutsOf s) states) est k (omega (arith, entry-one-each)) (omega (arith, e)) ∙ e
+
+    entry-right : estimates.Answered model s sheets-fine y (valueOn l k)
+    entry-right = subst⁻¹ (estimates.Answered model s sheets-fine y) entry-value (estimates.value-right model s sheets-fine states good k below)
+
+    pub entry-estimate-is-distance : EstimateIs u (estimates.model-accepted model s sheets-fine) (cutsOf s) (estimates.cuts-accepted model s sheets-fine) y (valued (valueOn l k))
+    entry-estimate-is-distance = entry-right .distance
+
+    pub entry-estimate-below : (ss : List Step) → reaches u y ss ≡ true → NoMore (valued (valueOn l k)) (some (costs u ss))
+    entry-estimate-below = entry-right .below
+
+    pub entry-estimate-consistent : (a : Step) → a .0 < stepCount u → canTake u a y ≡ true → NoMore (valued (valueOn l k)) (Option·map (λ e. costOf u a + e) (estimate u (cutsOf s) (taken u a y)))
+    entry-estimate-consistent = entry-right .consistent

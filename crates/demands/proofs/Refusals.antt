@@ -11,6 +11,7 @@ use mathlib.Core.Path.{_≡_, refl, sym, ap, _∙_}
 use mathlib.Core.Logic.{_↔_}
 use mathlib.Core.List.{List}
 use borrow.Author.Tests.{eq-eqb, ne-eqb}
+use Rattle.task.specs.Loops.{over}
 use Rattle.task.specs.Task.{Task}
 use Rattle.fields.specs.Judging.{refusal}
 use Rattle.fields.proofs.ExactLaws.{FirstToApply, Numbered, numbered-append, applies-first, first-refuses}
@@ -18,7 +19,7 @@ use Rattle.sheets.specs.ModelSheet.{sheetChecks}
 use Rattle.sheets.specs.Holding.{taskOn}
 use Rattle.sheets.specs.LentTables.{ofTables, readChecks, writeChecks}
 use Rattle.sheet_laws.proofs.Refusals as sheet
-use Rattle.cut_sheets.specs.CutSheet.{cutSheetChecks, rebuildChecks, writeCutsChecks}
+use Rattle.cut_sheets.specs.CutSheet.{cutSheetChecks, cutsOf, rebuildChecks, writeCutsChecks}
 use Rattle.cut_laws.proofs.Refusals as cut
 use Rattle.question_laws.proofs.Refusals as asked
 use Rattle.run_laws.proofs.Refusals as ran
@@ -37,13 +38,14 @@ use Rattle.cut_writing.specs.CutWriting as cutWriting
 use Rattle.asking.specs.declared.Asked.{Asked}
 use Rattle.asking.specs.declared.Asked.the-variants as answered
 use Rattle.asking.specs.Question as question
+use Rattle.asking.specs.Question.{estimatesOf}
 use Rattle.run.specs.Run as run
 use Rattle.run.specs.Run.{plan, noPlan, «open»}
 use Rattle.running.specs.declared.Answer.{Answer}
 use Rattle.running.specs.declared.Answer.the-variants as answer
 use Rattle.running.specs.Running as running
 use Rattle.running.specs.Running.{told}
-use Rattle.historian.specs.Entries.{answerNumber, fewPlaces, entryChecks, RunOutcome, runOutcome, madeBytes, runEntry, askChecks, AskOutcome, askOutcome, askEntry}
+use Rattle.historian.specs.Entries.{answerNumber, fewPlaces, entryChecks, RunOutcome, runOutcome, madeBytes, runEntry, bytesOf, askChecks, AskOutcome, askOutcome, askEntry}
 
 -- the same of an equal number
 carried : {a b n : ℕ} {X : Type 0} → a ≡ b → (b ≡ n) ↔ X → (a ≡ n) ↔ X
@@ -175,11 +177,15 @@ module _ (model s states estimates : List ℕ) where
   abbrev A : ℕ
   A = refusal (askChecks model s states estimates)
 
+  pub ask-made : A ≡ 0 → askEntry model s states estimates ≡ askOutcome 0 (over (bytesOf (estimatesOf (taskOn model) (cutsOf s) states)) estimates)
+  unfolding askEntry
+  ask-made z = simp (eq-eqb A 0 z)
+
   ask-refused : (A ≡ 0 → ⊥) → askEntry model s states estimates ≡ askOutcome A estimates
   unfolding askEntry
   ask-refused z = simp (ne-eqb A 0 z)
 
-  ask-number : askEntry model s states estimates .answer ≡ A
+  pub ask-number : askEntry model s states estimates .answer ≡ A
   unfolding askEntry
   ask-number = split (ℕ-discrete A 0)
     where

@@ -1,8 +1,8 @@
 -- 01, "Blocks and distances" and "Sheets": what a question that is answered has written. For any accepted cuts, from a run or not, each value is
 -- its state's abstract distance, no plan from that state costs less, and it is consistent along every step.
-use Prim.Native.Nat.{ℕ, _+_, _<_}
+use Prim.Native.Nat.{ℕ, _+_, _≤_, _<_}
 use native.Mathlib.Omega.{arith}
-use mathlib.Core.Path.{_≡_, refl, sym, ap, _∙_}
+use mathlib.Core.Path.{_≡_, refl, sym, ap, _∙_, subst⁻¹}
 use mathlib.Core.Bool.{true, false}
 use mathlib.Core.List.{List, [], _∷_}
 use mathlib.Core.Option.{Option, none, some, Option·map, Option·getD}
@@ -39,82 +39,108 @@ unfolding valued
 valued-back none h = refl
 valued-back (some e) h = rw (ne-eqb e (limits .«no_way») (λ z. omega (arith, h e refl)))
 
+mark-highest : (o : Option Tenths) → ((e : Tenths) → o ≡ some e → e < limits .«no_way») → Option·getD o (limits .«no_way») ≤ limits .«no_way»
+mark-highest none h = omega arith
+mark-highest (some e) h = omega (arith, h e refl)
+
 written : Asked → ℕ
 written (Estimates n) = n
 written (Refused n) = 0
 
-module _ (model s states est : List ℕ) {n : ℕ} {next : List ℕ} (done : outcome (Estimates n) next ≡ asking model s states est) where
-  -- the model and the cuts on the sheets, and state k of the bytes
+-- ---- accepted sheets, whoever asks
+module _ (model s : List ℕ) (fine : refusal (cutSheetChecks model s) ≡ 0) where
+  -- the model and the cuts on the sheets
   abbrev t : Task
   t = taskOn model
 
   abbrev cs : List Cut
   cs = cutsOf s
 
-  abbrev x : ℕ → State
-  x k = stateIn (columnCount t) states k
-
-  quiet : refusal (questionChecks model s states est) ≡ 0
-  unfolding number
-  quiet = sym (asked-number model s states est) ∙ ap (λ (o : Outcome). number (o .answer)) (sym done)
-
-  parts : (refusal (cutSheetChecks model s) ≡ 0) × (refusal (check 11 (badStates t states) ∷ tooFew (statesIn t states) est ∷ []) ≡ 0)
-  unfolding questionChecks
-  parts = neither (refusal (cutSheetChecks model s)) _ (sym (refusal-append (cutSheetChecks model s) _) ∙ quiet)
-
-  good : badStates t states ≡ false
-  good = passed 11 (badStates t states) _ (λ z. omega arith) (parts .1) .0
-
   pub model-accepted : Accepted t
   unfolding taskOn
-  model-accepted = accepted-task model (sheet-accepted model s (parts .0) .0)
+  model-accepted = accepted-task model (sheet-accepted model s fine .0)
 
   pub cuts-accepted : accepted t cs ≡ true
   unfolding cutsOf
-  cuts-accepted = own-accepted t (tailOf s) (sheet-accepted model s (parts .0) .2)
+  cuts-accepted = own-accepted t (tailOf s) (sheet-accepted model s fine .2)
 
   few : length cs < limits .blocks
   unfolding cutsOf cutsNamed
   few = omega (arith, tab-length (countOf (tailOf s)) (λ k. cutNamed (cutOn (tailOf s) k)), count-below (tailOf s) refl)
 
-  whole : outcome (Estimates n) next ≡ outcome (Estimates (statesIn t states)) (over (estimatesOf t cs states) est)
+  -- what a value says that stands for a state
+  pub record Answered (x : State) (v : ℕ) : Type 0 where
+    pub state : isState t x ≡ true
+    -- the estimate, which is the distance of its block
+    pub value : valued v ≡ estimate t cs x
+    pub distance : EstimateIs t model-accepted cs cuts-accepted x (valued v)
+    -- no plan from the state costs less
+    pub below : (ss : List Step) → reaches t x ss ≡ true → NoMore (valued v) (some (costs t ss))
+    -- a step's cost and the next estimate are never below it
+    pub consistent : (a : Step) → a .0 < stepCount t → canTake t a x ≡ true → NoMore (valued v) (Option·map (λ e. costOf t a + e) (estimate t cs (taken t a x)))
+
+  module _ (states : List ℕ) (good : badStates t states ≡ false) (k : ℕ) (h : k < statesIn t states) where
+    -- state k of the bytes
+    abbrev x : State
+    x = stateIn (columnCount t) states k
+
+    is-state : isState t x ≡ true
+    is-state = state-good t states good k h
+
+    bounded : (e : Tenths) → estimate t cs x ≡ some e → e < limits .«no_way»
+    bounded e q = estimate-bound t model-accepted cs cuts-accepted few x is-state e q .1
+
+    pub value-right : Answered x (estimateAt t cs states k)
+    unfolding estimateAt
+    value-right =
+        let v = model-accepted in
+        let ok = cuts-accepted in
+        let is = is-state in
+        let q : valued (estimateAt t cs states k) ≡ estimate t cs x = valued-back (estimate t cs x) bounded in
+        record {
+          state = is;
+          value = q;
+          distance = rw q (estimate-is-distance t v cs ok x is);
+          below = λ ss r. rw q (estimate-below t v cs ok ss x is r);
+          consistent = λ a f c. rw q (estimate-consistent t v cs ok x is a f c);
+        }
+
+    -- the mark for "no way" is the highest value
+    pub value-most : estimateAt t cs states k ≤ limits .«no_way»
+    unfolding estimateAt
+    value-most = mark-highest (estimate t cs x) bounded
+
+-- ---- a question that was answered
+module _ (model s states est : List ℕ) {n : ℕ} {next : List ℕ} (done : outcome (Estimates n) next ≡ asking model s states est) where
+  abbrev m : Task
+  m = taskOn model
+
+  quiet : refusal (questionChecks model s states est) ≡ 0
+  unfolding number
+  quiet = sym (asked-number model s states est) ∙ ap (λ (o : Outcome). number (o .answer)) (sym done)
+
+  parts : (refusal (cutSheetChecks model s) ≡ 0) × (refusal (check 11 (badStates m states) ∷ tooFew (statesIn m states) est ∷ []) ≡ 0)
+  unfolding questionChecks
+  parts = neither (refusal (cutSheetChecks model s)) _ (sym (refusal-append (cutSheetChecks model s) _) ∙ quiet)
+
+  pub sheets-fine : refusal (cutSheetChecks model s) ≡ 0
+  sheets-fine = parts .0
+
+  good : badStates m states ≡ false
+  good = passed 11 (badStates m states) _ (λ z. omega arith) (parts .1) .0
+
+  whole : outcome (Estimates n) next ≡ outcome (Estimates (statesIn m states)) (over (estimatesOf m (cutsOf s) states) est)
   unfolding asking
   whole = simp (eq-eqb (refusal (questionChecks model s states est)) 0 quiet) at done
 
   -- one value for each state
-  pub every-state : n ≡ statesIn t states
+  pub every-state : n ≡ statesIn m states
   unfolding written
   every-state = ap (λ (o : Outcome). written (o .answer)) whole
 
-  -- what is written for a state
-  pub record Answered (k : ℕ) : Type 0 where
-    pub state : isState t (x k) ≡ true
-    -- its value says the estimate, which is the distance of its block
-    pub value : valued (getD next k 0) ≡ estimate t cs (x k)
-    pub distance : EstimateIs t model-accepted cs cuts-accepted (x k) (valued (getD next k 0))
-    -- no plan from the state costs less
-    pub below : (ss : List Step) → reaches t (x k) ss ≡ true → NoMore (valued (getD next k 0)) (some (costs t ss))
-    -- a step's cost and the next estimate are never below it
-    pub consistent : (a : Step) → a .0 < stepCount t → canTake t a (x k) ≡ true → NoMore (valued (getD next k 0)) (Option·map (λ e. costOf t a + e) (estimate t cs (taken t a (x k))))
-
-  pub estimates-right : (k : ℕ) → k < n → Answered k
+  pub estimates-right : (k : ℕ) → k < n → Answered model s sheets-fine (stateIn (columnCount m) states k) (getD next k 0)
+  unfolding estimatesOf
   estimates-right k h =
-      let v = model-accepted in
-      let ok = cuts-accepted in
-      let l : k < statesIn t states = omega (arith, every-state) in
-      let is : isState t (x k) ≡ true = state-good t states good k l in
-      let w : getD next k 0 ≡ estimateAt t cs states k = at-place k l in
-      let q : valued (getD next k 0) ≡ estimate t cs (x k) = ap valued w ∙ back k l is in
-      record {
-        state = is;
-        value = q;
-        distance = rw q (estimate-is-distance t v cs ok (x k) is);
-        below = λ ss r. rw q (estimate-below t v cs ok ss (x k) is r);
-        consistent = λ a f c. rw q (estimate-consistent t v cs ok (x k) is a f c);
-      }
-    where
-      at-place : (k : ℕ) → k < statesIn t states → getD next k 0 ≡ estimateAt t cs states k
-      at-place k l = ap (λ (o : Outcome). getD (o .estimates) k 0) whole ∙ (unfold estimatesOf in over-at (statesIn t states) (estimateAt t cs states) est 0 k l)
-
-      back : (k : ℕ) → k < statesIn t states → isState t (x k) ≡ true → valued (estimateAt t cs states k) ≡ estimate t cs (x k)
-      back k l is = unfold estimateAt in valued-back (estimate t cs (x k)) (λ e h. estimate-bound t model-accepted cs cuts-accepted few (x k) is e h .1)
+      let l : k < statesIn m states = omega (arith, every-state) in
+      let w : getD next k 0 ≡ estimateAt m (cutsOf s) states k = ap (λ (o : Outcome). getD (o .estimates) k 0) whole ∙ over-at (statesIn m states) (estimateAt m (cutsOf s) states) est 0 k l in
+      subst⁻¹ (Answered model s sheets-fine (stateIn (columnCount m) states k)) w (value-right model s sheets-fine states good k l)
