@@ -1,3 +1,4 @@
 pub mod Ten
 pub mod Refusals
+pub mod CutsBack
 pub mod Examples

@@ -19,7 +19,7 @@ use Rattle.blocks.proofs.PartLaws.{fits}
 use Rattle.blocks.proofs.CutLaws.{blocks-length}
 use Rattle.sheets.specs.ModelSheet.{fillBits, fillPart}
 use Rattle.cut_sheets.specs.CutPart.{CutFields, CutSource, cutNamed, cutsNamed, cutHeader, cutPart, cutBits, cutFields, cutEntries, countOf, cutOn, cutPartWith, ofCutPart, cutBytes, cutChecks, judgeCuts}
-use Rattle.cut_sheets.proofs.CutPartLaws.{H, C, F, cut-whole, part-bits, CutReads, holds-reads, reads-holds, CutFine, PartFine, part-fine, cuts-length, cuts-accepted, SameCuts, same-cuts, same-fields, reads-same}
+use Rattle.cut_sheets.proofs.CutPartLaws.{H, C, F, cut-whole, part-bits, CutReads, holds-reads, reads-holds, CutFine, PartFine, part-fine, cuts-length, cuts-accepted, SameCuts, same-fields, reads-same}
 
 -- a cut that is accepted has room in its fields
 module _ (t : Task) (v : Accepted t) (c : ℕ → CutFields) (i : ℕ) (h : i < 255) (ok : CutFine t c i) where
@@ -80,10 +80,6 @@ module _ (t : Task) (v : Accepted t) (p : CutSource) (ok : judged (cutEntries t 
   written-entries =
       ap (λ (x : ℕ). cutFields t (ofCutPart T) x) (ap (λ (f : Field). f .value) (written-same .count)) ∙ same-fields t (ofCutPart T) p n written-same
 
-  -- and are read back as the same cuts
-  pub written-cuts : cutsNamed (ofCutPart T .cut) (countOf T) ≡ cutsNamed (p .cut) n
-  written-cuts = ap (cutsNamed (ofCutPart T .cut)) (written-reads .count) ∙ same-cuts t (ofCutPart T) p n written-same n (omega arith)
-
   -- with no refusal
   pub written-accepted : judgeCuts t T ≡ 0
   unfolding judgeCuts cutChecks
@@ -100,9 +96,12 @@ module _ (t : Task) (s : List ℕ) (ok : judgeCuts t s ≡ 0) where
       let r = last-both (cutEntries t (ofCutPart s)) _ ok in
       (r .0, ltb-false (cutBytes (countOf s)) (length s) (passed 6 (ltb (cutBytes (countOf s)) (length s)) [] (omega arith) (r .1) .0))
 
+  pub own-judged : judged (cutEntries t (ofCutPart s)) ≡ 0
+  own-judged = split-ok .0
+
   pub own-fine : PartFine t (ofCutPart s) (countOf s)
   unfolding cutEntries ofCutPart cutPartWith
-  own-fine = part-fine t (ofCutPart s) (countOf s) (split-ok .0)
+  own-fine = part-fine t (ofCutPart s) (countOf s) own-judged
 
   -- the cuts of an accepted part are accepted
   pub own-accepted : accepted t (cutsNamed (cutOn s) (countOf s)) ≡ true

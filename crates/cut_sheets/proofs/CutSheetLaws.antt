@@ -11,7 +11,7 @@ use lib.Seq.{ext-getD, getD-take, getD-drop, length-take-le, drop-at}
 use borrow.Author.Tests.{leb-true, le-leb, lt-ltb, eqb-true, eq-eqb, not-false}
 use Rattle.task.specs.Task.{Task, Accepted}
 use Rattle.task.proofs.LoopLaws.{and-left, and-right, and-both, all-at, all-intro}
-use Rattle.fields.specs.Judging.{Entry, judged, each, refusal, onSheet, inTable, given}
+use Rattle.fields.specs.Judging.{Field, Entry, judged, each, refusal, onSheet, inTable, given}
 use Rattle.fields.specs.Packing.{bitsIn, sheetOf}
 use Rattle.fields.proofs.JudgingLaws.{go, stop, neither, last-both, last-stopped, last-went, applies, passed, passes, refusal-append}
 use Rattle.fields.proofs.PartLaws.{field-take}
@@ -23,8 +23,8 @@ use Rattle.sheets.proofs.SheetLaws.{sheet-fine}
 use Rattle.sheets.proofs.HoldLaws.{Reads, holds-reads, sheet-bits, whole-bytes}
 use Rattle.sheets.proofs.RoundLaws.{Same, same-fields, reads-same, own-holds, own-fine, exact-length, same-field}
 use Rattle.sheets.specs.Holding.{taskOn}
-use Rattle.cut_sheets.specs.CutPart.{CutFields, cutsNamed, cutEntries, countOf, cutOn, ofCutPart, cutPartWith, cutChecks, judgeCuts}
-use Rattle.cut_sheets.specs.CutSheet.{tailOf, atFront, cutSheetChecks, cutsOf, cutValues, cutList, cutLent, ofCuts, cutSheetOf}
+use Rattle.cut_sheets.specs.CutPart.{CutFields, cutEntries, countOf, cutOn, cutBytes, ofCutPart, cutPartWith, cutChecks, judgeCuts}
+use Rattle.cut_sheets.specs.CutSheet.{tailOf, atFront, cutSheetChecks, cutValues, cutList, cutLent, ofCuts, cutSheetOf, givenChecks}
 use Rattle.cut_sheets.proofs.CutPartLaws as part
 use Rattle.cut_sheets.proofs.CutPartLaws.{SameCuts, PartFine}
 use Rattle.cut_sheets.proofs.CutRoundLaws as round
@@ -168,15 +168,28 @@ module _ (model : List ℕ) (count : ℕ) (cuts : List ℕ) (v : Accepted (taskO
   unfolding ofCuts cutLent
   wide i h = sets i h
 
+  -- it is as long as its model and its count say
+  pub written-length : length S ≡ length model + cutBytes count
+  unfolding cutSheetOf cutEntries ofCuts
+  written-length = length-append model P ∙ ap (λ (x : ℕ). length model + x) (round.written-length (taskOn model) v (ofCuts count cuts) good wide)
+
   -- the sheet is accepted
   pub written-accepted : refusal (cutSheetChecks model S) ≡ 0
   unfolding cutEntries
   written-accepted = front-refusal model S ok front ∙ ap (judgeCuts (taskOn model)) tail ∙ round.written-accepted (taskOn model) v (ofCuts count cuts) good wide
 
-  -- and has the cuts
-  pub written-cuts : cutsOf S ≡ cutsNamed (cutLent cuts) count
-  unfolding cutsOf cutEntries ofCutPart cutPartWith ofCuts
-  written-cuts = ap (λ (l : List ℕ). cutsNamed (cutOn l) (countOf l)) tail ∙ round.written-cuts (taskOn model) v (ofCuts count cuts) good wide
+  same-written : SameCuts (ofCutPart P) (ofCuts count cuts) count
+  unfolding cutEntries ofCuts
+  same-written = round.written-same (taskOn model) v (ofCuts count cuts) good wide
+
+  pub written-count : countOf (tailOf S) ≡ count
+  unfolding ofCutPart cutPartWith ofCuts
+  written-count = ap countOf tail ∙ ap (λ (f : Field). f .value) (same-written .count)
+
+  -- a reader finds the writer's fields
+  pub written-fields : (i : ℕ) → i < count → cutOn (tailOf S) i ≡ cutLent cuts i
+  unfolding ofCutPart cutPartWith ofCuts
+  written-fields i h = ap (λ (l : List ℕ). cutOn l i) tail ∙ same-written .cut i h
 
 -- ---- read and written again
 module _ (model s : List ℕ) (ok : refusal (cutSheetChecks model s) ≡ 0) where
@@ -189,35 +202,60 @@ module _ (model s : List ℕ) (ok : refusal (cutSheetChecks model s) ≡ 0) wher
   fine : PartFine (taskOn model) (ofCutPart T) K
   fine = round.own-fine (taskOn model) T (sheet-accepted model s ok .2)
 
-  there : (k : ℕ) → k < K * 3 → ltb k (length (cutList s)) ≡ true
+  pub list-length : length (cutList s) ≡ K * 3
   unfolding cutList
-  there k h = lt-ltb k (length (cutList s)) (omega (arith, each-length (cutValues (cutOn T)) 3 (values-length (cutOn T)) K))
-
-  same : SameCuts (ofCuts K (cutList s)) (ofCutPart T) K
-  unfolding ofCuts cutLent cutList ofCutPart cutPartWith
-  same =
-      record {
-        form = same-field (given 2) (onSheet T 0 4) refl (fine .form .0) (sym (fine .form .1));
-        count = same-field (given K) (onSheet T 4 8) refl (fine .count .0) refl;
-        cut = λ i h k. record {
-          block = same-field (inTable (cutList s) (i * 3)) (cutOn T i .block) (there (i * 3) (omega arith)) (fine .cut i h .block) (block-place (cutOn T) K i h) k;
-          column = same-field (inTable (cutList s) (i * 3 + 1)) (cutOn T i .column) (there (i * 3 + 1) (omega arith)) (fine .cut i h .column) (column-place (cutOn T) K i h) k;
-          wanted = same-field (inTable (cutList s) (i * 3 + 2)) (cutOn T i .wanted) (there (i * 3 + 2) (omega arith)) (fine .cut i h .wanted) (wanted-place (cutOn T) K i h) k;
-        };
-        fill = same-field (given 0) (ofCutPart T .fill) refl (fine .fill .0) (sym (fine .fill .1));
-      }
-
-  listed-entries : cutEntries (taskOn model) (ofCuts K (cutList s)) ≡ cutEntries (taskOn model) (ofCutPart T)
-  unfolding cutEntries ofCuts ofCutPart cutPartWith
-  listed-entries = part.same-fields (taskOn model) (ofCuts K (cutList s)) (ofCutPart T) K same
+  list-length = each-length (cutValues (cutOn T)) 3 (values-length (cutOn T)) K
 
   tail-bytes : Bytes s → Bytes T
   unfolding tailOf
   tail-bytes b i = rw (getD-drop (modelBytes (columnsOf s) (stepsOf s)) s i 0) (b (modelBytes (columnsOf s) (stepsOf s) + i))
 
-  -- accepted bytes come back the same
-  pub read-write : Bytes s → cutSheetOf model K (cutList s) ≡ s
-  unfolding cutSheetOf
-  read-write b =
+  -- from any list that begins with the sheet's cuts
+  module _ (rest : List ℕ) where
+    abbrev L : List ℕ
+    L = cutList s ++ rest
+
+    there : (k : ℕ) → k < K * 3 → ltb k (length L) ≡ true
+    there k h = lt-ltb k (length L) (omega (arith, length-append (cutList s) rest, list-length))
+
+    -- a place of the list is the field that it was filled from
+    same-place : (k : ℕ) (f : Field) → k < K * 3 → f .here ≡ true → getD (cutList s) k 0 ≡ f .value → inTable L k ≡ f
+    same-place k f h here e = same-field (inTable L k) f (there k h) here (List·getD-append (cutList s) rest 0 k (omega (arith, list-length)) ∙ e)
+
+    same : SameCuts (ofCuts K L) (ofCutPart T) K
+    unfolding ofCuts cutLent cutList ofCutPart cutPartWith
+    same =
+        record {
+          form = same-field (given 2) (onSheet T 0 4) refl (fine .form .0) (sym (fine .form .1));
+          count = same-field (given K) (onSheet T 4 8) refl (fine .count .0) refl;
+          cut = λ i h k. record {
+            block = same-place (i * 3) (cutOn T i .block) (omega arith) (fine .cut i h .block) (block-place (cutOn T) K i h) k;
+            column = same-place (i * 3 + 1) (cutOn T i .column) (omega arith) (fine .cut i h .column) (column-place (cutOn T) K i h) k;
+            wanted = same-place (i * 3 + 2) (cutOn T i .wanted) (omega arith) (fine .cut i h .wanted) (wanted-place (cutOn T) K i h) k;
+          };
+          fill = same-field (given 0) (ofCutPart T .fill) refl (fine .fill .0) (sym (fine .fill .1));
+        }
+
+    listed-entries : cutEntries (taskOn model) (ofCuts K L) ≡ cutEntries (taskOn model) (ofCutPart T)
+    unfolding cutEntries ofCuts ofCutPart cutPartWith
+    listed-entries = part.same-fields (taskOn model) (ofCuts K L) (ofCutPart T) K same
+
+    -- accepted bytes come back the same
+    pub read-write : Bytes s → cutSheetOf model K L ≡ s
+    unfolding cutSheetOf
+    read-write b =
+        let a = sheet-accepted model s ok in
+        ap (λ (l : List ℕ). model ++ l) (ap sheetOf listed-entries ∙ round.read-write (taskOn model) T (a .2) (tail-bytes b)) ∙ whole-is model (a .0) s (a .1)
+
+    -- and a writer refuses nothing of them
+    pub rewrite-fine : refusal (givenChecks model K L) ≡ 0
+    unfolding givenChecks judgeSheet judged
+    rewrite-fine =
+        let a = sheet-accepted model s ok in
+        refusal-append (sheetChecks model) _ ∙ go (refusal (sheetChecks model)) _ (a .0) ∙ ap judged listed-entries ∙ round.own-judged (taskOn model) T (a .2)
+
+  -- as long as the model and the count say
+  pub sheet-length : length s ≡ length model + cutBytes K
+  sheet-length =
       let a = sheet-accepted model s ok in
-      ap (λ (l : List ℕ). model ++ l) (ap sheetOf listed-entries ∙ round.read-write (taskOn model) T (a .2) (tail-bytes b)) ∙ whole-is model (a .0) s (a .1)
+      ap length (sym (whole-is model (a .0) s (a .1))) ∙ length-append model T ∙ ap (λ (x : ℕ). length model + x) (round.exact-length (taskOn model) T (a .2))

@@ -1,5 +1,6 @@
--- Demand 2: "Sheets written and read back give the same model and cuts, and accepted bytes come back the same." The writer's contract is a premise of
--- each, and the reader's of all but `cuts-back`. A list that is lent may be longer than what is put in it; the sheet is its first bytes.
+-- Demand 2: "Sheets written and read back give the same model and cuts, and accepted bytes come back the same." The premises of each theorem are the
+-- contracts of the reader and of the writer, and what the types say: a cost is a `u16`, a wanted set a `u32`, a sheet is bytes. A list that is lent
+-- may be longer than what is put in it; the sheet is its first bytes. The second call has no other outcome: it is not refused.
 use Prim.Native.Nat.{ℕ, _+_, _*_, _^_, _≤_, _<_}
 use native.Mathlib.Decide.{ℕ-discrete}
 use mathlib.Core.Path.{_≡_, sym, ap, _∙_}
@@ -21,23 +22,25 @@ use Rattle.reading.specs.Reading as reading
 use Rattle.writing.specs.declared.write.SheetWritten.{SheetWritten}
 use Rattle.writing.specs.declared.write.SheetWritten.the-variants.{Sheet, Refused}
 use Rattle.writing.specs.Writing as writing
-use Rattle.task.specs.Task.{Accepted}
 use Rattle.sheets.specs.Holding.{taskOn}
 use Rattle.sheets.proofs.RoundLaws.{written-length}
-use Rattle.sheet_laws.proofs.Held.{accepted-task}
-use Rattle.fields.proofs.PlaceLaws.{each-length}
-use Rattle.cut_sheets.specs.CutPart.{cutsNamed, cutEntries, cutBytes, countOf, cutOn}
-use Rattle.cut_sheets.specs.CutSheet.{tailOf, cutSheetChecks, cutsOf, cutList, cutLent, cutValues, rebuildChecks, ofCuts, cutSheetOf, givenChecks, writeCutsChecks}
-use Rattle.cut_sheets.proofs.CutSheetLaws as round
+use Rattle.cut_sheets.specs.CutPart.{cutEntries, cutBytes, countOf}
+use Rattle.cut_sheets.specs.CutSheet.{tailOf, cutSheetChecks, cutList, rebuildChecks, ofCuts, cutSheetOf, givenChecks, writeCutsChecks}
+use Rattle.cut_laws.proofs.CutsBack as back
 use Rattle.cut_reading.specs.declared.CutsRebuilt.{CutsRebuilt}
 use Rattle.cut_reading.specs.declared.CutsRebuilt.the-variants.{Cuts, Refused as NotRebuilt}
 use Rattle.cut_reading.specs.Rebuilding as rebuilding
+use Rattle.cut_writing.specs.declared.CutsWritten.{CutsWritten}
 use Rattle.cut_writing.specs.declared.CutsWritten.the-variants.{Sheet as CutSheet, Refused as CutsRefused}
 use Rattle.cut_writing.specs.CutWriting as cutWriting
 
 bytesTold : SheetWritten → ℕ
 bytesTold (Sheet n) = n
 bytesTold (Refused n) = 0
+
+cutBytesTold : CutsWritten → ℕ
+cutBytesTold (CutSheet n) = n
+cutBytesTold (CutsRefused n) = 0
 
 cutsTold : CutsRebuilt → ℕ
 cutsTold (Cuts n) = n
@@ -129,8 +132,8 @@ module _ (s f c k : List ℕ) (bs : Bytes s) {n m : ℕ} {f′ c′ k′ : List 
 
 -- ---- the cut sheet
 
--- written and read back: the sheet is accepted with its model, and has the writer's cuts
-module _ (model : List ℕ) (count : ℕ) (cuts sheet₀ : List ℕ) {b : ℕ} {s : List ℕ} (wrote : cutWriting.outcome (CutSheet b) s ≡ cutWriting.writingCuts model count cuts sheet₀) where
+-- written and rebuilt: the reader has as many cuts, and the values that the writer was to read
+module _ (model : List ℕ) (count : ℕ) (cuts sheet₀ : List ℕ) (sets : (i : ℕ) → i < count → getD cuts (i * 3 + 2) 0 < 2 ^ 32) {b : ℕ} {s : List ℕ} (wrote : cutWriting.outcome (CutSheet b) s ≡ cutWriting.writingCuts model count cuts sheet₀) where
   abbrev K : ℕ
   K = refusal (writeCutsChecks model count cuts sheet₀)
 
@@ -152,21 +155,19 @@ module _ (model : List ℕ) (count : ℕ) (cuts sheet₀ : List ℕ) {b : ℕ} {
   unfolding cutWriting.writingCuts
   whole-cuts = wrote ∙ simp (eq-eqb K 0 cuts-quiet)
 
-  model-good : Accepted (taskOn model)
-  unfolding taskOn
-  model-good = accepted-task model (given-quiet .0)
+  -- the bytes told are the cut sheet
+  pub cut-sheet-is : take b s ≡ cutSheetOf model count cuts
+  unfolding cutBytesTold
+  cut-sheet-is =
+      let S = cutSheetOf model count cuts in
+      let l : b ≡ length S = ap (λ (o : cutWriting.Outcome). cutBytesTold (o .answer)) whole-cuts ∙ sym (back.sheet-long model count cuts (given-quiet .0) (given-quiet .1) sets) in
+      ap (λ (k : ℕ). take k s) l ∙ ap (λ (o : cutWriting.Outcome). take (length S) (o .sheet)) whole-cuts ∙ front-of S sheet₀
 
-  -- the lent bytes begin with the cut sheet
-  pub cut-sheet-is : s ≡ over (cutSheetOf model count cuts) sheet₀
-  cut-sheet-is = ap (λ (o : cutWriting.Outcome). o .sheet) whole-cuts
+  pub cuts-back : (c₀ : List ℕ) → count * 3 ≤ length c₀ → {r : CutsRebuilt} {c : List ℕ} → rebuilding.outcome r c ≡ rebuilding.rebuilding model (take b s) c₀
+      → rebuilding.outcome r c ≡ rebuilding.outcome (Cuts count) (over (take (count * 3) cuts) c₀)
+  cuts-back c₀ h rebuilt = rebuilt ∙ ap (λ (x : List ℕ). rebuilding.rebuilding model x c₀) cut-sheet-is ∙ back.cuts-back model count cuts (given-quiet .0) (given-quiet .1) sets c₀ h
 
-  pub cuts-back : ((i : ℕ) → i < count → getD cuts (i * 3 + 2) 0 < 2 ^ 32) → (refusal (cutSheetChecks model (cutSheetOf model count cuts)) ≡ 0) × (cutsOf (cutSheetOf model count cuts) ≡ cutsNamed (cutLent cuts) count)
-  cuts-back sets = (
-    round.written-accepted model count cuts model-good (given-quiet .0) (given-quiet .1) sets,
-    round.written-cuts model count cuts model-good (given-quiet .0) (given-quiet .1) sets,
-  )
-
--- accepted bytes: the cuts that were rebuilt, written again with the model, are the same bytes
+-- accepted bytes: the cuts that were rebuilt, written again with the model from the list that holds them, come back the same
 module _ (model s c₀ : List ℕ) (bs : Bytes s) {n : ℕ} {c : List ℕ} (rebuilt : rebuilding.outcome (Cuts n) c ≡ rebuilding.rebuilding model s c₀) where
   abbrev Q : ℕ
   Q = refusal (rebuildChecks model s c₀)
@@ -179,7 +180,7 @@ module _ (model s c₀ : List ℕ) (bs : Bytes s) {n : ℕ} {c : List ℕ} (rebu
       split (yes z) = z
       split (no z) = let e : rebuilding.outcome (Cuts n) c ≡ rebuilding.outcome (NotRebuilt Q) c₀ = rebuilt ∙ simp (ne-eqb Q 0 z) in sym (ap (λ (o : rebuilding.Outcome). rebuilding.number (o .answer)) e)
 
-  pub cut-sheet-good : refusal (cutSheetChecks model s) ≡ 0
+  cut-sheet-good : refusal (cutSheetChecks model s) ≡ 0
   unfolding rebuildChecks
   cut-sheet-good = neither (refusal (cutSheetChecks model s)) _ (sym (refusal-append (cutSheetChecks model s) _) ∙ rebuild-quiet) .0
 
@@ -187,25 +188,7 @@ module _ (model s c₀ : List ℕ) (bs : Bytes s) {n : ℕ} {c : List ℕ} (rebu
   unfolding rebuilding.rebuilding
   whole-rebuild = rebuilt ∙ simp (eq-eqb Q 0 rebuild-quiet)
 
-  same-count : n ≡ countOf (tailOf s)
+  pub cut-bytes-back : (sheet₀ : List ℕ) → length s ≤ length sheet₀ → {r : CutsWritten} {s′ : List ℕ} → cutWriting.outcome r s′ ≡ cutWriting.writingCuts model n c sheet₀
+      → cutWriting.outcome r s′ ≡ cutWriting.outcome (CutSheet (length s)) (over s sheet₀)
   unfolding cutsTold
-  same-count = ap (λ (o : rebuilding.Outcome). cutsTold (o .answer)) whole-rebuild
-
-  list-long : length (cutList s) ≡ countOf (tailOf s) * 3
-  unfolding cutList
-  list-long = each-length (cutValues (cutOn (tailOf s))) 3 (round.values-length (cutOn (tailOf s))) (countOf (tailOf s))
-
-  -- the places that were filled are the sheet's cuts
-  pub cuts-are : take (n * 3) c ≡ cutList s
-  cuts-are =
-      ap (λ (k : ℕ). take (k * 3) c) same-count
-      ∙ ap (λ (k : ℕ). take k c) (sym list-long)
-      ∙ ap (λ (o : rebuilding.Outcome). take (length (cutList s)) (o .cuts)) whole-rebuild
-      ∙ front-of (cutList s) c₀
-
-  pub cut-bytes-back : (sheet₀ : List ℕ) {b : ℕ} {s′ : List ℕ} → cutWriting.outcome (CutSheet b) s′ ≡ cutWriting.writingCuts model n (take (n * 3) c) sheet₀ → s′ ≡ over s sheet₀
-  cut-bytes-back sheet₀ wrote =
-      cut-sheet-is model n (take (n * 3) c) sheet₀ wrote
-      ∙ ap (λ (k : ℕ). over (cutSheetOf model k (take (n * 3) c)) sheet₀) same-count
-      ∙ ap (λ (x : List ℕ). over (cutSheetOf model (countOf (tailOf s)) x) sheet₀) cuts-are
-      ∙ ap (λ (x : List ℕ). over x sheet₀) (round.read-write model s cut-sheet-good bs)
+  cut-bytes-back sheet₀ h wrote = wrote ∙ ap (λ (o : rebuilding.Outcome). cutWriting.writingCuts model (cutsTold (o .answer)) (o .cuts) sheet₀) whole-rebuild ∙ back.bytes-back model s cut-sheet-good bs c₀ sheet₀ h

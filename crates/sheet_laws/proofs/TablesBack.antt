@@ -48,7 +48,7 @@ module _ (p q : Source) (e : Same p q (columnsIn p) (stepsIn p)) where
       ∙ ap₂ (λ (m n : ℕ). each m (stepValues (q .marks) n)) same-steps same-columns
 
 -- ---- lists cut out of a table one after the other are its front
-slices : (f : ℕ → List ℕ) (c n at : ℕ) (l : List ℕ) → ((i : ℕ) → i < n → f i ≡ take c (drop (at + i * c) l)) → each n f ≡ take (n * c) (drop at l)
+pub slices : (f : ℕ → List ℕ) (c n at : ℕ) (l : List ℕ) → ((i : ℕ) → i < n → f i ≡ take c (drop (at + i * c) l)) → each n f ≡ take (n * c) (drop at l)
 unfolding each
 slices f c zero at l h = let z : 0 * c ≡ 0 = omega arith in rw z refl
 slices f c (suc n) at l h =
@@ -61,7 +61,7 @@ one l i h = rw (drop-cons l i 0 h) refl
 two : (l : List ℕ) (i : ℕ) → i + 1 < length l → take 2 (drop i l) ≡ getD l i 0 ∷ getD l (i + 1) 0 ∷ []
 two l i h = rw (drop-cons l i 0 (omega arith)) (ap (λ (x : List ℕ). getD l i 0 ∷ x) (rw add-one (one l (suc i) (omega arith))))
 
-three : (l : List ℕ) (i : ℕ) → i + 2 < length l → take 3 (drop i l) ≡ getD l i 0 ∷ getD l (i + 1) 0 ∷ getD l (i + 2) 0 ∷ []
+pub three : (l : List ℕ) (i : ℕ) → i + 2 < length l → take 3 (drop i l) ≡ getD l i 0 ∷ getD l (i + 1) 0 ∷ getD l (i + 2) 0 ∷ []
 three l i h =
     let z : suc i + 1 ≡ i + 2 = omega arith in
     rw (drop-cons l i 0 (omega arith)) (ap (λ (x : List ℕ). getD l i 0 ∷ x) (rw add-one (two l (suc i) (omega arith) ∙ rw z refl)))
