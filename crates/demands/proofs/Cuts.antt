@@ -2,37 +2,27 @@
 -- full brings exactly one cut by 01's rules; with room for N or more the run never ends open; an open run has filled its room. From cut to cut no
 -- state's estimate falls, 'no way' ranking above every number." And 01: answers carry the number of blocks, which is the number of cuts plus one.
 -- For `run` and for `elhavir_run`, for whoever knows only the contract. A run that is not refused has an accepted model and a room of 1 to 256.
-use Prim.Native.Nat.{ℕ, _+_, _≤_}
+use Prim.Native.Nat.{ℕ, _+_, _≤_, _<_}
 use native.Mathlib.Omega.{arith}
-use mathlib.Core.Path.{_≡_, sym, ap, _∙_, subst}
+use mathlib.Core.Path.{_≡_, sym, _∙_}
 use mathlib.Core.Bool.{true}
 use mathlib.Core.List.{List, [], _∷_, _++_}
 use lib.ListN.{length}
 use Rattle.task.specs.Loops.{over}
-use Rattle.task.specs.Task.{Task, State, Tenths, Accepted, stateCount, isState}
+use Rattle.task.specs.Task.{Task, State, Accepted, stateCount, isState}
 use Rattle.blocks.specs.declared.Cut.{Cut}
-use Rattle.blocks.specs.Blocks.{blocksOf}
+use Rattle.blocks.specs.Blocks.{accepted}
 use Rattle.distances.specs.Distances.{NoMore, estimate}
 use Rattle.sheets.specs.Holding.{taskOn}
-use Rattle.run.specs.Run as run
-use Rattle.run.specs.Run.{look, flaw, endOf}
-use Rattle.run.proofs.RunLaws.{Ruled, Right, run-right}
 use Rattle.refining.specs.Listing.{listed, cutPlace}
 use Rattle.running.specs.declared.Answer.{Answer}
 use Rattle.running.specs.declared.Answer.the-variants.{Plan, NoPlan, Open, Refused}
 use Rattle.running.specs.Running.{number, outcome, running}
+use Rattle.run_laws.proofs.Flaws.{FlawMet}
 use Rattle.run_laws.proofs.Answers as said
 use Rattle.historian.specs.Entries.{bytesOf, runOutcome, runEntry}
 use Rattle.demands.proofs.Numbers.{kind, blocks}
 use Rattle.demands.proofs.Entry as entry
-
--- a flaw that is met in the end has found the room full: every other flaw brought its cut
-pub flaw-brings-cut : (t : Task) → Accepted t → (room : ℕ) → 1 ≤ room → {e : Tenths} {c : Cut} → look t (blocksOf t (run.run t room .made)) ≡ flaw e c → length (run.run t room .made) + 1 ≡ room
-unfolding endOf
-flaw-brings-cut t v room h q =
-    let r = run-right t v room h in
-    let z = subst (Right t room (run.run t room .made)) (r .ends ∙ ap endOf q) (r .right) in
-    omega (arith, z .0)
 
 -- the number of blocks that an answer tells
 pub blocksTold : Answer → ℕ
@@ -66,16 +56,28 @@ module _ (s : List ℕ) (room : ℕ) (cuts rows : List ℕ) {a : Answer} {c l : 
   pub cuts-listed : c ≡ over (listed cutPlace made) cuts
   cuts-listed = ran .listed-cuts
 
-  -- each flaw met before the room is full brings exactly one cut by 01's rules
-  pub one-cut-per-flaw : Ruled t made
-  one-cut-per-flaw = ran .ruled
+  -- each flaw met before the room is full brings exactly one cut by 01's rules: the next one is that flaw's,
+  pub flaw-brings-cut : (before after : List Cut) (k : Cut) → made ≡ before ++ after → FlawMet t before k → length before + 1 < room → (rest : List Cut) × (after ≡ k ∷ rest)
+  flaw-brings-cut = ran .flaws .brought
 
-  pub cuts-within : length made + 1 ≤ room
-  cuts-within = ran .within
+  -- no cut is made without its flaw,
+  pub cut-has-its-flaw : (before after : List Cut) (k : Cut) → made ≡ before ++ (k ∷ after) → FlawMet t before k
+  cut-has-its-flaw = ran .flaws .of-flaw
 
-  -- the number of blocks is the number of listed cuts plus one
+  -- and a flaw that is met in the end has found the room full
+  pub last-flaw-is-full : (k : Cut) → FlawMet t made k → length made + 1 ≡ room
+  last-flaw-is-full = ran .flaws .last-full
+
+  -- every cut is one that 01 accepts
+  pub cuts-accepted : accepted t made ≡ true
+  cuts-accepted = ran .ok
+
+  -- the number of blocks is the number of listed cuts plus one, and within the room
   pub blocks-are-cuts-plus-one : blocksTold a ≡ length made + 1
   blocks-are-cuts-plus-one = blocks-said t room made rows l a (ran .says)
+
+  pub blocks-within : (1 ≤ blocksTold a) × (blocksTold a ≤ room) × (room ≤ 256)
+  blocks-within = (omega (arith, blocks-are-cuts-plus-one), omega (arith, blocks-are-cuts-plus-one, ran .within), ran .few)
 
   -- with room for N or more the run never ends open
   pub never-open : stateCount t ≤ room → (e b : ℕ) → a ≡ Open e b → ⊥
@@ -97,17 +99,32 @@ module _ (s : List ℕ) (room : ℕ) (cuts rows : List ℕ) {r : ℕ} {c l : Lis
   pub had : entry.Made s room cuts rows done
   had = entry.entry-says s room cuts rows done kept
 
+  pub entry-accepted-and-room : Accepted u × (1 ≤ room) × (room ≤ 256)
+  entry-accepted-and-room = (had .model, had .some, had .few)
+
   abbrev pub entry-made : List Cut
   entry-made = had .made
 
   pub entry-cuts-listed : c ≡ over (bytesOf (listed cutPlace entry-made)) cuts
   entry-cuts-listed = had .listed-cuts
 
-  pub entry-one-cut-per-flaw : Ruled u entry-made
-  entry-one-cut-per-flaw = had .ruled
+  pub entry-flaw-brings-cut : (before after : List Cut) (k : Cut) → entry-made ≡ before ++ after → FlawMet u before k → length before + 1 < room → (rest : List Cut) × (after ≡ k ∷ rest)
+  entry-flaw-brings-cut = had .flaws .brought
+
+  pub entry-cut-has-its-flaw : (before after : List Cut) (k : Cut) → entry-made ≡ before ++ (k ∷ after) → FlawMet u before k
+  entry-cut-has-its-flaw = had .flaws .of-flaw
+
+  pub entry-last-flaw-is-full : (k : Cut) → FlawMet u entry-made k → length entry-made + 1 ≡ room
+  entry-last-flaw-is-full = had .flaws .last-full
+
+  pub entry-cuts-accepted : accepted u entry-made ≡ true
+  entry-cuts-accepted = had .ok
 
   pub entry-blocks : blocks r ≡ length entry-made + 1
   entry-blocks = had .tells .blocks-are
+
+  pub entry-blocks-within : (1 ≤ blocks r) × (blocks r ≤ room) × (room ≤ 256)
+  entry-blocks-within = (omega (arith, entry-blocks), omega (arith, entry-blocks, had .within), had .few)
 
   pub entry-never-open : stateCount u ≤ room → kind r ≡ 3 → ⊥
   entry-never-open h k = let z = had .tells .open-right k .too-small in omega arith

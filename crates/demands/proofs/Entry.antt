@@ -24,13 +24,14 @@ use Rattle.sheets.specs.Holding.{taskOn}
 use Rattle.sheet_laws.proofs.Held.{accepted-task}
 use Rattle.run.specs.Run as run
 use Rattle.run.specs.Run.{plan, noPlan, «open», rows, rowsOf}
-use Rattle.run.proofs.RunLaws.{Cheapest, NoPlan, Ruled, Right, run-right}
+use Rattle.run.proofs.RunLaws.{Cheapest, NoPlan, Right, run-right}
 use Rattle.run.proofs.LengthLaws.{plan-short}
 use Rattle.refining.specs.Listing.{listed, cutPlace, rowPlace}
 use Rattle.running.specs.Running.{told}
 use Rattle.historian.specs.Entries.{bytesOf, answerNumber, entryChecks, RunOutcome, runOutcome, madeBytes, runEntry}
 use Rattle.demands.proofs.Numbers.{kind, blocks, steps, value, Parts, takes-apart, entry-low}
 use Rattle.demands.proofs.Refusals.{entry-made, entry-refused}
+use Rattle.run_laws.proofs.Flaws.{OnePerFlaw, one-per-flaw}
 use Rattle.run_laws.proofs.Answers.{accepted-front}
 
 costs-few : (t : Task) → ((s : Step) → costOf t s ≤ 65535) → (ss : List Step) → costs t ss ≤ length ss * 65535
@@ -134,8 +135,7 @@ module _ (s : List ℕ) (room : ℕ) (cuts rows₀ : List ℕ) {r : ℕ} {cuts�
     pub made : List Cut
     pub listed-cuts : cuts′ ≡ over (bytesOf (listed cutPlace made)) cuts
     pub ok : accepted t made ≡ true
-    -- each flaw met before the room was full brought exactly one cut, by 01's rules
-    pub ruled : Ruled t made
+    pub flaws : OnePerFlaw t room made
     pub within : length made + 1 ≤ room
     pub tells : Tells t room made rows₀ r rows′
 
@@ -168,7 +168,7 @@ module _ (s : List ℕ) (room : ℕ) (cuts rows₀ : List ℕ) {r : ℕ} {cuts�
             made = o .made;
             listed-cuts = ap (λ (x : RunOutcome). x .cuts) (done ∙ entry-made s room cuts rows₀ z) ∙ (unfold madeBytes in refl);
             ok = w .made;
-            ruled = w .ruled;
+            flaws = one-per-flaw t room o w;
             within = fit;
             tells = rw (e, l) (tells t v room (f .1) (o .made) (w .made) fit rows₀ (o .answer) (w .right) (plan-short t v room (f .0)));
           }

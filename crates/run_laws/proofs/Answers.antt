@@ -1,6 +1,6 @@
 -- 01, "A run": what a run that is not refused has answered, for whoever knows only its contract. A plan can be carried out, reaches the goal, and
--- none is cheaper; "no plan" only where none exists; an open run has filled its room, and never has room for every state. Each listed cut is the
--- one of the flaw met with the cuts before it, blocks are cuts plus one, and from cut to cut no state's estimate falls.
+-- none is cheaper; "no plan" only where none exists; an open run has filled its room, and never has room for every state. Each flaw
+-- met before the room is full brings exactly one cut, blocks are cuts plus one, and from cut to cut no state's estimate falls.
 use Prim.Native.Nat.{ℕ, _+_, _-_, _≤_, _<_}
 use native.Mathlib.Omega.{arith}
 use mathlib.Core.Path.{_≡_, refl, sym, ap, _∙_, subst}
@@ -25,13 +25,14 @@ use Rattle.sheets.specs.Holding.{taskOn}
 use Rattle.sheet_laws.proofs.Held.{accepted-task}
 use Rattle.run.specs.Run as run
 use Rattle.run.specs.Run.{plan, noPlan, «open», rows, rowsOf, blocksIn}
-use Rattle.run.proofs.RunLaws.{Cheapest, NoPlan as NonePlans, Ruled, Right, run-right}
+use Rattle.run.proofs.RunLaws.{Cheapest, NoPlan as NonePlans, Right, run-right}
 use Rattle.refining.specs.Listing.{listed, cutPlace, rowPlace}
 use Rattle.running.specs.declared.Answer.{Answer}
 use Rattle.running.specs.declared.Answer.the-variants.{Plan, NoPlan, Open, Refused}
 use Rattle.running.specs.Running.{roomChecks, runChecks, told, number, Outcome, outcome, made, running}
 use Rattle.running.proofs.RunningLaws.{room-fits}
 use Rattle.run_laws.proofs.Refusals.{run-number}
+use Rattle.run_laws.proofs.Flaws.{OnePerFlaw, one-per-flaw}
 
 -- a plan in the list: its steps, its cost, and that none is cheaper
 pub record Planned (t : Task) (cost count : ℕ) (list₀ list : List ℕ) : Type 0 where
@@ -79,8 +80,7 @@ module _ (s : List ℕ) (room : ℕ) (cuts rows₀ : List ℕ) where
     pub made : List Cut
     pub listed-cuts : cuts′ ≡ over (listed cutPlace made) cuts
     pub ok : accepted t made ≡ true
-    -- each flaw met before the room was full brought exactly one cut, by 01's rules
-    pub ruled : Ruled t made
+    pub flaws : OnePerFlaw t room made
     pub within : length made + 1 ≤ room
     pub says : Says t room made rows₀ rows′ a
 
@@ -115,7 +115,7 @@ module _ (s : List ℕ) (room : ℕ) (cuts rows₀ : List ℕ) where
           made = o .made;
           listed-cuts = ap (λ (x : Outcome). x .cuts) whole-run ∙ (unfold made in refl);
           ok = r .made;
-          ruled = r .ruled;
+          flaws = one-per-flaw t room o r;
           within = omega (arith, r .fits);
           says = rw e (said t room (o .made) rows₀ rows′ (o .answer) (r .right) l);
         }

@@ -1,3 +1,4 @@
 pub mod Refusals
+pub mod Flaws
 pub mod Answers
 pub mod Examples
