@@ -32,14 +32,14 @@ numbered-sheets model s =
 
 -- ---- rebuilding
 module _ (model s cuts : List ℕ) where
-  numbered-rebuild : Numbered (rebuildChecks model s cuts)
+  pub numbered-rebuild : Numbered (rebuildChecks model s cuts)
   unfolding rebuildChecks
   numbered-rebuild = numbered-append (cutSheetChecks model s) _ (numbered-sheets model s) (λ z. omega arith, tt)
 
   abbrev R : ℕ
   R = refusal (rebuildChecks model s cuts)
 
-  rebuilt-number : number (rebuilding model s cuts .answer) ≡ R
+  pub rebuilt-number : number (rebuilding model s cuts .answer) ≡ R
   unfolding rebuilding number
   rebuilt-number = split (eqb R 0) refl
     where
@@ -62,7 +62,7 @@ module _ (model s cuts : List ℕ) where
 
 -- ---- writing cuts
 module _ (model : List ℕ) (count : ℕ) (cuts sheet : List ℕ) where
-  numbered-write : Numbered (writeCutsChecks model count cuts sheet)
+  pub numbered-write : Numbered (writeCutsChecks model count cuts sheet)
   unfolding writeCutsChecks givenChecks cutEntries
   numbered-write =
       numbered-append (givenChecks model count cuts) _
@@ -73,7 +73,7 @@ module _ (model : List ℕ) (count : ℕ) (cuts sheet : List ℕ) where
   abbrev W : ℕ
   W = refusal (writeCutsChecks model count cuts sheet)
 
-  written-number : writeNumber (writingCuts model count cuts sheet .answer) ≡ W
+  pub written-number : writeNumber (writingCuts model count cuts sheet .answer) ≡ W
   unfolding writingCuts writeNumber
   written-number = split (eqb W 0) refl
     where

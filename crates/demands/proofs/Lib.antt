@@ -1,6 +1,7 @@
 pub mod OneOutcome
 pub mod Refusals
 pub mod Numbers
+pub mod Acceptances
 pub mod Entry
 pub mod Answers
 pub mod RoundTrips

@@ -120,14 +120,14 @@ module _ (s : List ℕ) (room : ℕ) (cuts rows : List ℕ) {r : Answer} {c l : 
   run-leaves e = done ∙ ran.run-leaves s room cuts rows n some (sym same-run ∙ e)
 
 -- ---- elhavir_run: an answer below 2^56, of kind 0, is a refusal's number
-large : (t : Task) (b : ℕ) (a : run.Answer) → 2 ^ 56 ≤ answerNumber (told t b a)
+pub large : (t : Task) (b : ℕ) (a : run.Answer) → 2 ^ 56 ≤ answerNumber (told t b a)
 unfolding answerNumber told
 large t b (plan ss) = omega arith
 large t b noPlan = omega arith
 large t b («open» e) = omega arith
 
 module _ (s : List ℕ) (room : ℕ) (cuts rows : List ℕ) where
-  numbered-entry : Numbered (entryChecks s room cuts rows)
+  pub numbered-entry : Numbered (entryChecks s room cuts rows)
   unfolding entryChecks fewPlaces
   numbered-entry = numbered-append (sheetChecks s) _ (sheet.numbered-sheet s) (λ z. omega arith, (λ z. omega arith, (λ z. omega arith, tt)))
 
@@ -170,7 +170,7 @@ module _ (s : List ℕ) (room : ℕ) (cuts rows : List ℕ) where
 
 -- ---- elhavir_question: 0 when done, else the refusal's number
 module _ (model s states estimates : List ℕ) where
-  numbered-ask : Numbered (askChecks model s states estimates)
+  pub numbered-ask : Numbered (askChecks model s states estimates)
   unfolding askChecks fewPlaces
   numbered-ask = numbered-append (cutSheetChecks model s) _ (cut.numbered-sheets model s) (λ z. omega arith, (λ z. omega arith, tt))
 

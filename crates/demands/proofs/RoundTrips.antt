@@ -2,12 +2,11 @@
 -- contracts of the reader and of the writer, and what the types say: a cost is a `u16`, a wanted set a `u32`, a sheet is bytes. A list that is lent
 -- may be longer than what is put in it; the sheet is its first bytes. The second call has no other outcome: it is not refused.
 use Prim.Native.Nat.{ℕ, _+_, _*_, _^_, _≤_, _<_}
-use native.Mathlib.Decide.{ℕ-discrete}
 use mathlib.Core.Path.{_≡_, sym, ap, _∙_}
 use mathlib.Core.List.{List}
 use lib.ListN.{length, getD, take, drop}
 use lib.Seq.{take-append-seam}
-use borrow.Author.Tests.{eq-eqb, ne-eqb}
+use borrow.Author.Tests.{eq-eqb}
 use Rattle.task.specs.Loops.{over}
 use Rattle.fields.specs.Judging.{judged, refusal, checksOf}
 use Rattle.fields.specs.Packing.{sheetOf}
@@ -16,6 +15,7 @@ use Rattle.fields.proofs.PutLaws.{Bytes}
 use Rattle.sheets.specs.ModelSheet.{Source, columnsIn, stepsIn, columnsOf, stepsOf, ofSheet, entries, modelBytes, judgeSheet, sheetChecks}
 use Rattle.sheets.specs.LentTables.{frameOf, costsOf, marksOf, ofTables, readChecks, writeChecks}
 use Rattle.sheet_laws.proofs.TablesBack as tables
+use Rattle.sheet_laws.proofs.Refusals as sheet
 use Rattle.reading.specs.declared.ModelRead.{ModelRead}
 use Rattle.reading.specs.declared.ModelRead.the-variants.{Held, Refused as NotRead}
 use Rattle.reading.specs.Reading as reading
@@ -27,6 +27,7 @@ use Rattle.sheets.proofs.RoundLaws.{written-length}
 use Rattle.cut_sheets.specs.CutPart.{cutEntries, cutBytes, countOf}
 use Rattle.cut_sheets.specs.CutSheet.{tailOf, cutSheetChecks, cutList, rebuildChecks, ofCuts, cutSheetOf, givenChecks, writeCutsChecks}
 use Rattle.cut_laws.proofs.CutsBack as back
+use Rattle.cut_laws.proofs.Refusals as cut
 use Rattle.cut_reading.specs.declared.CutsRebuilt.{CutsRebuilt}
 use Rattle.cut_reading.specs.declared.CutsRebuilt.the-variants.{Cuts, Refused as NotRebuilt}
 use Rattle.cut_reading.specs.Rebuilding as rebuilding
@@ -74,12 +75,8 @@ module _ (n m : ℕ) (frame costs marks sheet₀ : List ℕ) (bound : (j : ℕ) 
   W = refusal (writeChecks P sheet₀)
 
   write-quiet : W ≡ 0
-  unfolding writing.writing writing.number
-  write-quiet = split (ℕ-discrete W 0)
-    where
-      split : Dec (W ≡ 0) → W ≡ 0
-      split (yes z) = z
-      split (no z) = let e : writing.outcome (Sheet b) s ≡ writing.outcome (Refused W) sheet₀ = wrote ∙ simp (ne-eqb W 0 z) in sym (ap (λ (o : writing.Outcome). writing.number (o .answer)) e)
+  unfolding writing.number
+  write-quiet = sym (ap (λ (o : writing.Outcome). writing.number (o .answer)) wrote ∙ sheet.write-number P sheet₀)
 
   fields-good : judged (entries P) ≡ 0
   unfolding writeChecks judged
@@ -110,12 +107,8 @@ module _ (s f c k : List ℕ) (bs : Bytes s) {n m : ℕ} {f′ c′ k′ : List 
   R = refusal (readChecks s f c k)
 
   read-quiet : R ≡ 0
-  unfolding reading.reading reading.number
-  read-quiet = split (ℕ-discrete R 0)
-    where
-      split : Dec (R ≡ 0) → R ≡ 0
-      split (yes z) = z
-      split (no z) = let e : reading.outcome (Held n m) f′ c′ k′ ≡ reading.outcome (NotRead R) f c k = read ∙ simp (ne-eqb R 0 z) in sym (ap (λ (o : reading.Outcome). reading.number (o .answer)) e)
+  unfolding reading.number
+  read-quiet = sym (ap (λ (o : reading.Outcome). reading.number (o .answer)) read ∙ sheet.read-number s f c k)
 
   sheet-good : judgeSheet s ≡ 0
   unfolding readChecks judgeSheet
@@ -138,12 +131,8 @@ module _ (model : List ℕ) (count : ℕ) (cuts sheet₀ : List ℕ) (sets : (i 
   K = refusal (writeCutsChecks model count cuts sheet₀)
 
   cuts-quiet : K ≡ 0
-  unfolding cutWriting.writingCuts cutWriting.number
-  cuts-quiet = split (ℕ-discrete K 0)
-    where
-      split : Dec (K ≡ 0) → K ≡ 0
-      split (yes z) = z
-      split (no z) = let e : cutWriting.outcome (CutSheet b) s ≡ cutWriting.outcome (CutsRefused K) sheet₀ = wrote ∙ simp (ne-eqb K 0 z) in sym (ap (λ (o : cutWriting.Outcome). cutWriting.number (o .answer)) e)
+  unfolding cutWriting.number
+  cuts-quiet = sym (ap (λ (o : cutWriting.Outcome). cutWriting.number (o .answer)) wrote ∙ cut.written-number model count cuts sheet₀)
 
   given-quiet : (judgeSheet model ≡ 0) × (judged (cutEntries (taskOn model) (ofCuts count cuts)) ≡ 0)
   unfolding writeCutsChecks givenChecks judgeSheet judged
@@ -173,12 +162,8 @@ module _ (model s c₀ : List ℕ) (bs : Bytes s) {n : ℕ} {c : List ℕ} (rebu
   Q = refusal (rebuildChecks model s c₀)
 
   rebuild-quiet : Q ≡ 0
-  unfolding rebuilding.rebuilding rebuilding.number
-  rebuild-quiet = split (ℕ-discrete Q 0)
-    where
-      split : Dec (Q ≡ 0) → Q ≡ 0
-      split (yes z) = z
-      split (no z) = let e : rebuilding.outcome (Cuts n) c ≡ rebuilding.outcome (NotRebuilt Q) c₀ = rebuilt ∙ simp (ne-eqb Q 0 z) in sym (ap (λ (o : rebuilding.Outcome). rebuilding.number (o .answer)) e)
+  unfolding rebuilding.number
+  rebuild-quiet = sym (ap (λ (o : rebuilding.Outcome). rebuilding.number (o .answer)) rebuilt ∙ cut.rebuilt-number model s c₀)
 
   cut-sheet-good : refusal (cutSheetChecks model s) ≡ 0
   unfolding rebuildChecks

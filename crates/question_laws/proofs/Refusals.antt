@@ -18,7 +18,7 @@ use Rattle.asking.specs.Question.{statesIn, estimatesOf, questionChecks, outcom
 use Rattle.sheets.specs.Holding.{taskOn}
 
 module _ (model s states est : List ℕ) where
-  numbered : Numbered (questionChecks model s states est)
+  pub numbered : Numbered (questionChecks model s states est)
   unfolding questionChecks
   numbered = numbered-append (cutSheetChecks model s) _ (numbered-sheets model s) (λ z. omega arith, (λ z. omega arith, tt))
 

@@ -27,7 +27,7 @@ told-number t b noPlan = refl
 told-number t b («open» e) = refl
 
 module _ (s : List ℕ) (room : ℕ) (cuts rows : List ℕ) where
-  numbered : Numbered (runChecks s room cuts rows)
+  pub numbered : Numbered (runChecks s room cuts rows)
   unfolding runChecks roomChecks
   numbered = numbered-append (sheetChecks s) _ (numbered-sheet s) (λ z. omega arith, (λ z. omega arith, (λ z. omega arith, tt)))
 

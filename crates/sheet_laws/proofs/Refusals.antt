@@ -60,7 +60,7 @@ module _ (s : List ℕ) where
 
 -- ---- the reader
 module _ (s frame costs marks : List ℕ) where
-  numbered-read : Numbered (readChecks s frame costs marks)
+  pub numbered-read : Numbered (readChecks s frame costs marks)
   unfolding readChecks sheetChecks
   numbered-read =
       numbered-append (sheetChecks s) _ (numbered-sheet s)
@@ -69,9 +69,9 @@ module _ (s frame costs marks : List ℕ) where
   abbrev R : ℕ
   R = refusal (readChecks s frame costs marks)
 
-  answer-number : number (reading s frame costs marks .answer) ≡ R
+  pub read-number : number (reading s frame costs marks .answer) ≡ R
   unfolding reading number
-  answer-number = split (eqb R 0) refl
+  read-number = split (eqb R 0) refl
     where
       split : (b : Bool) → eqb R 0 ≡ b → number (pick b (outcome (Held (columnsOf s) (stepsOf s)) (over (frameOf (ofSheet s)) frame) (over (costsOf (ofSheet s)) costs) (over (marksOf (ofSheet s)) marks)) (outcome (Refused R) frame costs marks) .answer) ≡ R
       split true h = sym (eqb-true R 0 h)
@@ -80,28 +80,28 @@ module _ (s frame costs marks : List ℕ) where
   module _ (n : ℕ) (some : n ≡ 0 → ⊥) where
     -- the number n is returned: its row applies and no earlier check does
     pub read-only : number (reading s frame costs marks .answer) ≡ n → FirstToApply (readChecks s frame costs marks) n
-    read-only e = applies-first (readChecks s frame costs marks) numbered-read n some (sym answer-number ∙ e)
+    read-only e = applies-first (readChecks s frame costs marks) numbered-read n some (sym read-number ∙ e)
 
     pub read-whenever : FirstToApply (readChecks s frame costs marks) n → number (reading s frame costs marks .answer) ≡ n
-    read-whenever r = answer-number ∙ first-refuses (readChecks s frame costs marks) n some r
+    read-whenever r = read-number ∙ first-refuses (readChecks s frame costs marks) n some r
 
     -- and everything lent is as found
     pub read-leaves : number (reading s frame costs marks .answer) ≡ n → reading s frame costs marks ≡ outcome (Refused n) frame costs marks
     unfolding reading
     read-leaves e =
-        let q : R ≡ n = sym answer-number ∙ e in
+        let q : R ≡ n = sym read-number ∙ e in
         simp (ne-eqb R 0 (λ z. some (sym q ∙ z))) (ap (λ (k : ℕ). outcome (Refused k) frame costs marks) q)
 
 -- ---- the writer
 module _ (p : Source) (sheet : List ℕ) where
-  numbered-write : Numbered (writeChecks p sheet)
+  pub numbered-write : Numbered (writeChecks p sheet)
   unfolding writeChecks
   numbered-write = numbered-append (checksOf (entries p)) _ (numbered-checks (entries p) (numbered-fields p)) ((λ z. omega arith), tt)
 
   abbrev W : ℕ
   W = refusal (writeChecks p sheet)
 
-  write-number : writeNumber (writing p sheet .answer) ≡ W
+  pub write-number : writeNumber (writing p sheet .answer) ≡ W
   unfolding writing writeNumber
   write-number = split (eqb W 0) refl
     where
