@@ -1,7 +1,8 @@
 -- Demand 2: "The answers are those of the planning task as the SAS+ literature defines it. A plan can be carried out from the start, reaches the goal,
 -- and no plan is cheaper. 'No plan' is said only where none exists. For any accepted cut list, a state's estimate is the abstract distance as 01
 -- defines it, and no plan from that state costs less. Sheets written and read back give the same model and cuts, and accepted bytes come back the same."
--- For whoever knows only the contracts. The task is that of `task/specs/Task`: `IsPlan` is "can be carried out from the start and reaches the goal".
+-- For whoever knows only the contracts: of `run` and `question`, and of `elhavir_run` and `elhavir_question`, whose theorems begin with `entry-`. The
+-- sheets are in `RoundTrips`. The task is that of `task/specs/Task`: `IsPlan` is "can be carried out from the start and reaches the goal".
 use Prim.Native.Nat.{ℕ, _+_, _<_}
 use native.Mathlib.Omega.{arith}
 use mathlib.Core.Path.{_≡_, refl, sym, ap, _∙_, subst⁻¹}
@@ -50,29 +51,34 @@ module _ (s : List ℕ) (room : ℕ) (cuts rows : List ℕ) {r : ℕ} {c l : Lis
   entry-no-plan-right k = entry.entry-says s room cuts rows done (λ z. omega arith) .tells .no-plan-right k
 
 -- ---- "For any accepted cut list, a state's estimate is the abstract distance as 01 defines it, and no plan from that state costs less"
-module _ (model s states est : List ℕ) {n : ℕ} {next : List ℕ} (done : question.outcome (Estimates n) next ≡ asking model s states est) (k : ℕ) (below : k < n) where
+module _ (model s states est : List ℕ) {n : ℕ} {next : List ℕ} (done : question.outcome (Estimates n) next ≡ asking model s states est) where
   abbrev t : Task
   t = taskOn model
 
-  -- the state that was asked for
-  abbrev x : State
-  x = stateIn (columnCount t) states k
+  -- one value for each state
+  pub one-each : n ≡ statesIn t states
+  one-each = estimates.every-state model s states est done
 
   abbrev fine : refusal (cutSheetChecks model s) ≡ 0
   fine = estimates.sheets-fine model s states est done
 
-  right : estimates.Answered model s fine x (getD next k 0)
-  right = estimates.estimates-right model s states est done k below
+  module _ (k : ℕ) (below : k < n) where
+    -- the state that was asked for
+    abbrev x : State
+    x = stateIn (columnCount t) states k
 
-  pub estimate-is-distance : EstimateIs t (estimates.model-accepted model s fine) (cutsOf s) (estimates.cuts-accepted model s fine) x (valued (getD next k 0))
-  estimate-is-distance = right .distance
+    right : estimates.Answered model s fine x (getD next k 0)
+    right = estimates.estimates-right model s states est done k below
 
-  pub estimate-below : (ss : List Step) → reaches t x ss ≡ true → NoMore (valued (getD next k 0)) (some (costs t ss))
-  estimate-below = right .below
+    pub estimate-is-distance : EstimateIs t (estimates.model-accepted model s fine) (cutsOf s) (estimates.cuts-accepted model s fine) x (valued (getD next k 0))
+    estimate-is-distance = right .distance
 
-  -- and along every step it falls by no more than the step costs
-  pub estimate-consistent : (a : Step) → a .0 < stepCount t → canTake t a x ≡ true → NoMore (valued (getD next k 0)) (Option·map (λ e. costOf t a + e) (estimate t (cutsOf s) (taken t a x)))
-  estimate-consistent = right .consistent
+    pub estimate-below : (ss : List Step) → reaches t x ss ≡ true → NoMore (valued (getD next k 0)) (some (costs t ss))
+    estimate-below = right .below
+
+    -- and along every step it falls by no more than the step costs
+    pub estimate-consistent : (a : Step) → a .0 < stepCount t → canTake t a x ≡ true → NoMore (valued (getD next k 0)) (Option·map (λ e. costOf t a + e) (estimate t (cutsOf s) (taken t a x)))
+    estimate-consistent = right .consistent
 
 -- the same of the historian's question: 0 is returned, and the values stand in the bytes
 module _ (model s states est : List ℕ) {r : ℕ} {l : List ℕ} (done : askOutcome r l ≡ askEntry model s states est) (answered : r ≡ 0) where
@@ -92,7 +98,7 @@ module _ (model s states est : List ℕ) {r : ℕ} {l : List ℕ} (done : askOut
   good : badStates u states ≡ false
   good = passed 11 (badStates u states) _ (λ z. omega arith) (parts .1) .0
 
-  -- one value for each state, over the front of the bytes
+  -- the bytes of one value for each state, over the front of the list
   pub entry-estimates-written : l ≡ over (bytesOf (estimatesOf u (cutsOf s) states)) est
   entry-estimates-written = ap (λ (o : AskOutcome). o .estimates) (done ∙ ask-made model s states est quiet)
 

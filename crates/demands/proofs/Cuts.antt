@@ -2,6 +2,8 @@
 -- full brings exactly one cut by 01's rules; with room for N or more the run never ends open; an open run has filled its room. From cut to cut no
 -- state's estimate falls, 'no way' ranking above every number." And 01: answers carry the number of blocks, which is the number of cuts plus one.
 -- For `run` and for `elhavir_run`, for whoever knows only the contract. A run that is not refused has an accepted model and a room of 1 to 256.
+-- A run meets its flaws with the cuts made so far, which are a front of those made in the end: `FlawMet t before k` says that with the cuts `before` it
+-- meets a flaw, and that `k` is the cut that 01's step 4 asks for.
 use Prim.Native.Nat.{ℕ, _+_, _≤_, _<_}
 use native.Mathlib.Omega.{arith}
 use mathlib.Core.Path.{_≡_, sym, _∙_}
