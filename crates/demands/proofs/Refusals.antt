@@ -3,9 +3,9 @@
 -- For each public function two theorems, for whoever knows only its contract: a number is returned exactly when its row applies and no earlier
 -- check does, and then the answer is that refusal and everything lent is as found. No theorem asks anything of what is passed.
 -- `Acceptances` has when a call is accepted.
--- "Nothing reads or writes outside what was lent, and every call ends" is no theorem here: it is part of what it is to meet a contract. A contract is a
--- triple of total correctness; at entry the code has what its types lend and what its `requires` asks, and nothing else. No public function has a
--- `requires`, so that it holds of every call.
+-- "Nothing reads or writes outside what was lent, and every call ends" is no theorem here: it is part of what it is to meet a contract, which is a triple
+-- of total correctness over what the types lend and what the `requires` asks, beside any frame (the kit's law `adequate`). No public function has a
+-- `requires`, so it holds of every call.
 use Prim.Native.Nat.{ℕ, _^_, _≤_, _<_}
 use native.Mathlib.Omega.{arith}
 use native.Mathlib.Decide.{ℕ-discrete}
