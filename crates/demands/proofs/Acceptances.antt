@@ -44,7 +44,7 @@ use Rattle.run.specs.Run as run
 use Rattle.running.specs.declared.Answer.{Answer}
 use Rattle.running.specs.Running as running
 use Rattle.historian.specs.Entries.{bytesOf, entryChecks, RunOutcome, runOutcome, madeBytes, runEntry, askChecks, AskOutcome, askOutcome, askEntry}
-use Rattle.demands.proofs.Numbers.{entry-low}
+use Rattle.demands.proofs.RefusalNumbers.{entry-low}
 use Rattle.demands.proofs.Refusals.{large, numbered-entry, entry-made, entry-refused, numbered-ask, ask-made, ask-number}
 
 -- ---- no check applies

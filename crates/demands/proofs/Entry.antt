@@ -29,7 +29,8 @@ use Rattle.run.proofs.LengthLaws.{plan-short}
 use Rattle.refining.specs.Listing.{listed, cutPlace, rowPlace}
 use Rattle.running.specs.Running.{told}
 use Rattle.historian.specs.Entries.{bytesOf, answerNumber, entryChecks, RunOutcome, runOutcome, madeBytes, runEntry}
-use Rattle.demands.proofs.Numbers.{kind, blocks, steps, value, Parts, takes-apart, entry-low}
+use Rattle.demands.proofs.Numbers.{kind, blocks, steps, value, Parts, takes-apart}
+use Rattle.demands.proofs.RefusalNumbers.{entry-low}
 use Rattle.demands.proofs.Refusals.{entry-made, entry-refused}
 use Rattle.run_laws.proofs.Flaws.{OnePerFlaw, one-per-flaw}
 use Rattle.run_laws.proofs.Answers.{accepted-front}
