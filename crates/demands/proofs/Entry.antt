@@ -5,7 +5,7 @@ use native.Mathlib.Omega.{arith}
 use native.Mathlib.Decide.{ℕ-discrete}
 use mathlib.Core.Path.{_≡_, refl, sym, ap, _∙_}
 use mathlib.Core.Bool.{true}
-use mathlib.Core.List.{List, [], _∷_, _++_, append-assoc}
+use mathlib.Core.List.{List, [], _∷_, _++_}
 use mathlib.Core.Option.{some}
 use lib.ListN.{length}
 use Rattle.task.specs.declared.Step.{Step}
@@ -14,9 +14,8 @@ use Rattle.task.specs.Task.{Task, State, Accepted, stateCount, costOf, isState,
 use Rattle.task.proofs.TaskLaws.{start-state}
 use Rattle.blocks.specs.declared.Cut.{Cut}
 use Rattle.blocks.specs.Blocks.{accepted}
-use Rattle.blocks.proofs.FollowLaws.{accepted-less}
 use Rattle.distances.specs.Distances.{NoMore, estimate}
-use Rattle.distances.proofs.EstimateLaws.{estimate-bound, estimates-never-fall}
+use Rattle.distances.proofs.EstimateLaws.{estimate-bound}
 use Rattle.fields.specs.Judging.{refusal, outside, each}
 use Rattle.fields.proofs.JudgingLaws.{neither, passed, refusal-append, inside-means}
 use Rattle.sheets.specs.ModelSheet.{sheetChecks, judgeSheet}
@@ -33,7 +32,7 @@ use Rattle.demands.proofs.Numbers.{kind, blocks, steps, value, Parts, t
 use Rattle.demands.proofs.RefusalNumbers.{entry-low}
 use Rattle.demands.proofs.Refusals.{entry-made, entry-refused}
 use Rattle.run_laws.proofs.Flaws.{OnePerFlaw, one-per-flaw}
-use Rattle.run_laws.proofs.Answers.{accepted-front}
+use Rattle.run_laws.proofs.Answers.{none-falls}
 
 costs-few : (t : Task) → ((s : Step) → costOf t s ≤ 65535) → (ss : List Step) → costs t ss ≤ length ss * 65535
 unfolding costs
@@ -174,9 +173,5 @@ module _ (s : List ℕ) (room : ℕ) (cuts rows₀ : List ℕ) {r : ℕ} {cuts�
             tells = rw (e, l) (tells t v room (f .1) (o .made) (w .made) fit rows₀ (o .answer) (w .right) (plan-short t v room (f .0)));
           }
 
-  -- from cut to cut no state's estimate falls, "no way" ranking above every number
   pub never-falls : (m : Made) (before after : List Cut) (c : Cut) → m .made ≡ before ++ (c ∷ after) → (x : State) → isState t x ≡ true → NoMore (estimate t before x) (estimate t (before ++ (c ∷ [])) x)
-  never-falls m before after c q x h =
-      let w : accepted t ((before ++ (c ∷ [])) ++ after) ≡ true = rw (append-assoc before (c ∷ []) after) (rw q at (m .ok)) in
-      let l = accepted-less t (m .model) before c (accepted-front t (before ++ (c ∷ [])) after w) in
-      estimates-never-fall t (m .model) before (l .0) c (l .1) x h
+  never-falls m = none-falls t (m .model) (m .made) (m .ok)

@@ -64,9 +64,17 @@ front t (c ∷ a) b bs h =
     let r : cutsOk t (cutBlock bs c) (a ++ b) ≡ true = and-right (cutOk t bs c) (cutsOk t (cutBlock bs c) (a ++ b)) h in
     and-both (and-left (cutOk t bs c) (cutsOk t (cutBlock bs c) (a ++ b)) h) (front t a b (cutBlock bs c) r)
 
-pub accepted-front : (t : Task) (a b : List Cut) → accepted t (a ++ b) ≡ true → accepted t a ≡ true
+accepted-front : (t : Task) (a b : List Cut) → accepted t (a ++ b) ≡ true → accepted t a ≡ true
 unfolding accepted
 accepted-front t a b h = front t a b (whole t ∷ []) h
+
+-- along an accepted list no state's estimate falls from cut to cut, "no way" ranking above every number
+pub none-falls : (t : Task) → Accepted t → (made : List Cut) → accepted t made ≡ true → (before after : List Cut) (c : Cut) → made ≡ before ++ (c ∷ after)
+    → (x : State) → isState t x ≡ true → NoMore (estimate t before x) (estimate t (before ++ (c ∷ [])) x)
+none-falls t v made ok before after c q x h =
+    let w : accepted t ((before ++ (c ∷ [])) ++ after) ≡ true = rw (append-assoc before (c ∷ []) after) (rw q at ok) in
+    let l = accepted-less t v before c (accepted-front t (before ++ (c ∷ [])) after w) in
+    estimates-never-fall t v before (l .0) c (l .1) x h
 
 module _ (s : List ℕ) (room : ℕ) (cuts rows₀ : List ℕ) where
   abbrev t : Task
@@ -129,9 +137,5 @@ module _ (s : List ℕ) (room : ℕ) (cuts rows₀ : List ℕ) where
     pub open-is-full : (e b : ℕ) → a ≡ Open e b → length (r .made) + 1 ≡ room
     open-is-full e b q = let z = subst (Says t room (r .made) rows₀ rows′) q (r .says) in sym (z .0) ∙ z .2
 
-    -- from cut to cut no state's estimate falls, "no way" ranking above every number
     pub never-falls : (before after : List Cut) (c : Cut) → r .made ≡ before ++ (c ∷ after) → (x : State) → isState t x ≡ true → NoMore (estimate t before x) (estimate t (before ++ (c ∷ [])) x)
-    never-falls before after c q x h =
-        let w : accepted t ((before ++ (c ∷ [])) ++ after) ≡ true = rw (append-assoc before (c ∷ []) after) (rw q at (r .ok)) in
-        let l = accepted-less t (r .model) before c (accepted-front t (before ++ (c ∷ [])) after w) in
-        estimates-never-fall t (r .model) before (l .0) c (l .1) x h
+    never-falls = none-falls t (r .model) (r .made) (r .ok)
