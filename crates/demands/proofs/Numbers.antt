@@ -60,4 +60,4 @@ module _ (vs bytes₀ : List ℕ) (k : ℕ) (h : k < length vs) where
   unfolding valueBytes
   value-back small =
       let z : getD (over (bytesOf vs) bytes₀) (k * 4) 0 ≡ getD vs k 0 / 2 ^ 24 % 256 = rw add-zero at (byte-at 0 (omega arith)) in
-      omega (arith, z, byte-at 1 (omega arith), byte-at 2 (omega arith), byte-at 3 (omega arith), four-bytes (getD vs k 0) small)
+      rw (z, byte-at 1 (omega arith), byte-at 2 (omega arith), byte-at 3 (omega arith)) (four-bytes (getD vs k 0) small)
