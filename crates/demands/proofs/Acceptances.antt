@@ -62,7 +62,7 @@ quiet-none (c ∷ cs) p z (suc k) l = quiet-none cs (p .1) (passed (c .number) (
 
 -- an outcome o that is `made` where nothing is refused, and tells the number of the refusal
 module _ {O : Type 0} (number : O → ℕ) (cs : List Check) (numbered : Numbered cs) {o made : O} (done : refusal cs ≡ 0 → o ≡ made) (tells : number o ≡ refusal cs) (quiet : number made ≡ 0) where
-  exactly : NoneApplies cs ↔ (o ≡ made)
+  pub exactly : NoneApplies cs ↔ (o ≡ made)
   exactly = (λ n. done (none-quiet cs n), λ e. quiet-none cs numbered (sym tells ∙ ap number e ∙ quiet))
 
 -- ---- read_model

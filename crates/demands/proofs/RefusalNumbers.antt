@@ -41,7 +41,7 @@ has (k ∷ ks) n = eqb n k || has ks n
 
 -- ---- a list of checks gives only numbers that pass p
 module _ (p : ℕ → Bool) where
-  abbrev Give : List Check → Type 0
+  abbrev pub Give : List Check → Type 0
   Give [] = Unit {0}
   Give (c ∷ cs) = (p (c .number) ≡ true) × Give cs
 
@@ -49,7 +49,7 @@ module _ (p : ℕ → Bool) where
   GiveFields [] = Unit {0}
   GiveFields (e ∷ es) = (p (e .number) ≡ true) × GiveFields es
 
-  give-append : (a b : List Check) → Give a → Give b → Give (a ++ b)
+  pub give-append : (a b : List Check) → Give a → Give b → Give (a ++ b)
   give-append [] b f g = g
   give-append (c ∷ a) b f g = (f .0, give-append a b (f .1) g)
 
@@ -76,7 +76,7 @@ module _ (p : ℕ → Bool) where
   give-pick z true n h = h
   give-pick z false n h = z
 
-  give-refusal : p 0 ≡ true → (cs : List Check) → Give cs → p (refusal cs) ≡ true
+  pub give-refusal : p 0 ≡ true → (cs : List Check) → Give cs → p (refusal cs) ≡ true
   unfolding refusal
   give-refusal z [] f = z
   give-refusal z (c ∷ cs) f = give-then (pick (c .applies) (c .number) 0) (refusal cs) (give-pick z (c .applies) (c .number) (f .0)) (give-refusal z cs (f .1))
@@ -96,7 +96,7 @@ module _ (p : ℕ → Bool) where
     model-checks : (q : Source) → Give (checksOf (entries q))
     model-checks q = give-checks n1 (entries q) (model-fields q)
 
-    sheet-checks : (s : List ℕ) → Give (sheetChecks s)
+    pub sheet-checks : (s : List ℕ) → Give (sheetChecks s)
     unfolding sheetChecks
     sheet-checks s = give-append (checksOf (entries (ofSheet s))) _ (model-checks (ofSheet s)) (n6, tt)
 

@@ -5,7 +5,8 @@ use native.Mathlib.Omega.{arith}
 use native.Mathlib.Decide.{ℕ-discrete}
 use mathlib.Core.Path.{_≡_, refl, sym, ap, _∙_, subst}
 use mathlib.Core.Logic.{_↔_}
-use mathlib.Core.List.{List}
+use mathlib.Core.Bool.{true}
+use mathlib.Core.List.{List, [], _∷_}
 use mathlib.Core.Option.{some}
 use lib.ListN.{length, replicate, length-replicate}
 use borrow.Author.Tests.{eq-eqb, ne-eqb}
@@ -34,6 +35,8 @@ use Rattle.counts.specs.Counts.{usable}
 use Rattle.rows.specs.Rows as lent
 use Rattle.rows.specs.Rows.{filled, filling, rowChecks, outcome, rowRun}
 use Rattle.rows.proofs.RowRunLaws.{checks-same}
+use Rattle.demands.proofs.Acceptances.{NoneApplies, exactly}
+use Rattle.demands.proofs.RefusalNumbers.{has, give-append, give-refusal, sheet-checks}
 
 -- ---- one outcome
 
@@ -117,6 +120,17 @@ module _ (s : List ℕ) (room : ℕ) (cuts : List ℕ) (rs : List Row) where
       row-run-leaves e =
           let q : R ≡ n = sym same-number ∙ e in
           done ∙ rows-refused (λ z. is (sym q ∙ z)) ∙ ap (λ (k : ℕ). outcome (Refused k) cuts rs) q
+
+    pub row-run-accepts : NoneApplies (rowChecks s room cuts rs) ↔ (outcome a c l ≡ outcome (told t (blocksIn o) (o .answer)) (over (listed cutPlace (o .made)) cuts) (over (rowsOf t (o .answer)) rs))
+    row-run-accepts =
+        let tells : lent.Outcome → ℕ = λ x. number (x .answer) in
+        exactly tells (rowChecks s room cuts rs) numbered-rows (λ z. done ∙ rows-made z) same-number (told-number t (blocksIn o) (o .answer))
+
+    pub row-run-numbers : has (0 ∷ 1 ∷ 2 ∷ 3 ∷ 4 ∷ 5 ∷ 6 ∷ 7 ∷ 8 ∷ []) (number a) ≡ true
+    unfolding rowChecks
+    row-run-numbers =
+        let p = has (0 ∷ 1 ∷ 2 ∷ 3 ∷ 4 ∷ 5 ∷ 6 ∷ 7 ∷ 8 ∷ []) in
+        ap p same-number ∙ give-refusal p refl (rowChecks s room cuts rs) (give-append p (sheetChecks s) _ (sheet-checks p refl refl refl refl refl refl s) (refl, (refl, (refl, tt))))
 
     -- demands 2 and 3 of the answer and the cuts: it is `run`, with a list of values for as many places
     module _ (kept : number a ≡ 0) where
