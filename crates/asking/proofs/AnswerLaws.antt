@@ -15,7 +15,7 @@ use Rattle.task.specs.Sizes.{limits}
 use Rattle.task.specs.declared.Block.{Block}
 use Rattle.task.specs.declared.Column.{Column}
 use Rattle.task.specs.Task.{Task, Accepted, column, position, block, columnCount, sizeOf, at, isState}
-use Rattle.task.proofs.LoopLaws.{all-at, tab-length, tab-at, tab-ext}
+use Rattle.task.proofs.LoopLaws.{all-at, tab-length, tab-at, tab-ext, over-at}
 use Rattle.task.proofs.TaskLaws.{state-intro}
 use Rattle.blocks.specs.Blocks.{accepted, blocksOf, blockOf}
 use Rattle.blocks.specs.Flat.{cutsIn, followed}
@@ -24,7 +24,6 @@ use Rattle.blocks.proofs.FollowLaws.{cuts-length, follow-block}
 use Rattle.distances.specs.Distances.{Distance, farOf, distances, stateFar, estimate}
 use Rattle.distances.specs.Coded.{codedAt, codedOver}
 use Rattle.distances.proofs.JoinLaws.{cost-said}
-use Rattle.sheet_laws.proofs.Held.{over-at}
 use Rattle.asking.specs.Question.{placeIn, stateIn, wideState, costFound, statesIn, badStates, estimateAt, estimatesOf}
 use Rattle.asking.proofs.StateLaws.{followed-most, state-room}
 

@@ -10,6 +10,7 @@ use Rattle.task.specs.Loops.{tab, over}
 use Rattle.task.specs.Sizes.{limits}
 use Rattle.task.specs.Tables.{taskOf}
 use Rattle.task.specs.Task.{Accepted, block}
+use Rattle.task.proofs.LoopLaws.{over-at}
 use Rattle.task.proofs.TableLaws.{columns-of}
 use Rattle.fields.specs.Judging.{each}
 use Rattle.fields.specs.Places.{puts}
@@ -23,7 +24,6 @@ use Rattle.cut_sheets.specs.CutPart.{cutNamed, cutsNamed, cutOn, countOf, judge
 use Rattle.cut_sheets.specs.CutSheet.{cutValues}
 use Rattle.cut_sheets.specs.Judged.{Made}
 use Rattle.cut_sheets.proofs.CutRoundLaws.{own-fine, own-accepted}
-use Rattle.sheet_laws.proofs.Held.{over-at}
 use Rattle.asking.specs.Question.{wideState, costFound, statesIn, badStates, estimatesOf}
 use Rattle.asking.proofs.AnswerLaws.{made, estimates-found}
 use Rattle.asking.proofs.ListLaws.{column-listed, cuts-listed}

@@ -10,10 +10,9 @@ use lib.ListN.{length, getD}
 use borrow.Author.Tests.{lt-ltb, le-ltb, eq-eqb, ne-eqb}
 use Rattle.task.specs.Loops.{all}
 use Rattle.blocks.specs.Flat.{cutAt, goesOn, followed}
-use Rattle.sheet_laws.proofs.Held.{over-at}
 use Rattle.task.specs.Sizes.{limits}
 use Rattle.task.specs.Task.{Task, State, position, column, columnCount, sizeOf}
-use Rattle.task.proofs.LoopLaws.{all-ext, all-more, all-fails}
+use Rattle.task.proofs.LoopLaws.{all-ext, all-more, all-fails, over-at}
 use Rattle.fields.specs.Judging.{pick}
 use Rattle.asking.specs.Question.{badStates, statesIn, placeIn, stateIn, wideState}
 

@@ -8,7 +8,7 @@ use Prim.Native.Nat.{ℕ, suc, _+_, _-_, _*_, _/_, _%_, _<_, _≤_}
 use native.Mathlib.Decide.{decLt}
 use native.Mathlib.Omega.{arith}
 use native.Mathlib.Numerals.{add-one}
-use lib.ListN.{length, getD, drop, List·getD-append}
+use lib.ListN.{length, getD, drop}
 use lib.Seq.{ext-getD, getD-drop, getD-append-add}
 use borrow.Author.Tests.{lt-ltb, le-ltb}
 use Rattle.task.specs.declared.Step.{Step}
@@ -19,7 +19,7 @@ use Rattle.task.specs.declared.Model.{Model}
 use Rattle.task.specs.Tables.{taskOf}
 use Rattle.task.proofs.TableLaws.{columns-of, steps-of, cost-of}
 use Rattle.task.specs.Task.{Task, Accepted, Tenths, step, block, costOf}
-use Rattle.task.proofs.LoopLaws.{tab-length, tab-at, over-length}
+use Rattle.task.proofs.LoopLaws.{tab-length, over-length, over-at}
 use Rattle.blocks.specs.Blocks.{Blocks, leads}
 use Rattle.blocks.specs.Flat.{blocksIn}
 use Rattle.blocks.specs.Masks.{needSets, landSets, goalSets}
@@ -33,10 +33,6 @@ use Rattle.distances.proofs.LeastLaws.{PathOf, first-of, path-cons, dis
 use Rattle.distances.proofs.TableLaws.{distance-unique, rounds-bound}
 
 -- ---- a list written over, by its places
-pub over-front : (f : ℕ → ℕ) (l : List ℕ) (n i : ℕ) → i < n → getD (over (tab n f) l) i 0 ≡ f i
-unfolding over
-over-front f l n i h = List·getD-append (tab n f) (drop (length (tab n f)) l) 0 i (rw (tab-length n f) h) ∙ tab-at n f 0 i h
-
 pub over-past : (f : ℕ → ℕ) (l : List ℕ) (n i : ℕ) → n ≤ i → getD (over (tab n f) l) i 0 ≡ getD l i 0
 unfolding over
 over-past f l n i h =
@@ -142,7 +138,7 @@ module _ (t : Task) (columns count steps : ℕ) (needs lands goals costs sets : 
       let f = codedAt (distances t (blocksIn columns count sets)) in
       ext-getD 0 D′ (over (tab count f) D) (l′ ∙ sym (over-length count f D (omega arith) ∙ l))
       (λ i k. ⊎-elim
-      (λ (b : i < count). number-is i (getD D′ i 0) b (r .each i b) ∙ sym (over-front f D count i b))
+      (λ (b : i < count). number-is i (getD D′ i 0) b (r .each i b) ∙ sym (over-at count f D 0 i b))
       (λ (b : count ≤ i). r .rest i b ∙ sym (over-past f D count i b))
       (below-or-not i count))
 

@@ -12,7 +12,7 @@ use Rattle.task.specs.declared.Step.{Step}
 use Rattle.task.specs.Loops.{over}
 use Rattle.task.specs.Sizes.{limits}
 use Rattle.task.specs.Task.{Task, State, Tenths, Accepted, columnCount, stepCount, costOf, isState, canTake, taken, reaches, costs}
-use Rattle.task.proofs.LoopLaws.{tab-length}
+use Rattle.task.proofs.LoopLaws.{tab-length, over-at}
 use Rattle.blocks.specs.declared.Cut.{Cut}
 use Rattle.blocks.specs.Blocks.{accepted}
 use Rattle.distances.specs.Distances.{NoMore, estimate}
@@ -21,7 +21,7 @@ use Rattle.fields.specs.Judging.{check, refusal}
 use Rattle.fields.proofs.JudgingLaws.{neither, passed, refusal-append}
 use Rattle.sheets.specs.LentTables.{tooFew}
 use Rattle.sheets.specs.Holding.{taskOn}
-use Rattle.sheet_laws.proofs.Held.{accepted-task, over-at}
+use Rattle.sheet_laws.proofs.Held.{accepted-task}
 use Rattle.cut_sheets.specs.CutPart.{cutNamed, cutsNamed, cutOn, countOf}
 use Rattle.cut_sheets.specs.CutSheet.{tailOf, cutSheetChecks, cutsOf}
 use Rattle.cut_sheets.proofs.CutRoundLaws.{own-accepted}

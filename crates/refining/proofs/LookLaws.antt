@@ -10,6 +10,7 @@ use lib.Seq.{getD-take}
 use Rattle.task.specs.declared.Block.{Block}
 use Rattle.task.specs.Loops.{tab, over}
 use Rattle.task.specs.Task.{Task, State, column, position, block, at, columnCount, isState, start}
+use Rattle.task.proofs.LoopLaws.{over-at}
 use Rattle.task.proofs.TaskLaws.{start-state, position-below}
 use Rattle.blocks.specs.Blocks.{Blocks, only, blocksOf, blockOf}
 use Rattle.blocks.specs.Flat.{blocksIn, cutsIn}
@@ -18,7 +19,7 @@ use Rattle.blocks.proofs.FollowLaws.{cuts-length, cut-columns}
 use Rattle.distances.specs.Distances.{Distance, farOf, distances}
 use Rattle.distances.specs.Ways.{noWay}
 use Rattle.distances.specs.Coded.{decoded, codedAt, codedOver}
-use Rattle.distances.proofs.JoinLaws.{far-small, coded-says, decoded-low, decoded-high, over-front}
+use Rattle.distances.proofs.JoinLaws.{far-small, coded-says, decoded-low, decoded-high}
 use Rattle.run.specs.Hops.{Holds}
 use Rattle.run.specs.Run as run
 use Rattle.run.specs.Run.{Look, hopeless, lookFrom, look}
@@ -80,7 +81,7 @@ module _ (t : Task) {columns steps : ℕ} {x : State} {needs lands goals costs :
   -- the start as sets of one position each
   pub stands : (here : List ℕ) → Stands t (start t) (over (tab columns (λ j. only (getD x j (position 0)))) here)
   unfolding Stands
-  stands here j h = over-front (λ j. only (getD x j (position 0))) here columns (j .0) (omega (arith, wide)) ∙ ap only (place (j .0) (omega (arith, wide)))
+  stands here j h = over-at columns (λ j. only (getD x j (position 0))) here 0 (j .0) (omega (arith, wide)) ∙ ap only (place (j .0) (omega (arith, wide)))
 
   -- ---- the start's block
   module _ {a : Block} (f : some a ≡ blockOf t bs (take (columnCount t) x)) where
@@ -107,7 +108,7 @@ module _ (t : Task) {columns steps : ℕ} {x : State} {needs lands goals costs :
 
       holds : Holds (distances t bs) (made + 1) dist
       unfolding Holds codedOver
-      holds b h = ap (λ (l : List ℕ). getD l b 0) coded ∙ over-front (codedAt (distances t bs)) old (made + 1) b h
+      holds b h = ap (λ (l : List ℕ). getD l b 0) coded ∙ over-at (made + 1) (codedAt (distances t bs)) old 0 b h
 
       abbrev n : ℕ
       n = getD dist (a .0) 0

@@ -5,15 +5,15 @@ use native.Mathlib.Decide.{decLt}
 use mathlib.Core.Path.{_≡_, refl, sym, ap, ap₂, _∙_, subst}
 use mathlib.Core.List.{List}
 use mathlib.Core.Option.{Option, none, some}
-use lib.ListN.{getD, List·getD-append, List·getD-eq-default}
+use lib.ListN.{getD, List·getD-eq-default}
 use borrow.Author.Tests.{lt-ltb, eq-eqb}
 use Rattle.task.specs.declared.Column.{Column}
 use Rattle.task.specs.declared.Position.{Position}
 use Rattle.task.specs.declared.Step.{Step}
-use Rattle.task.specs.Loops.{tab, over}
+use Rattle.task.specs.Loops.{tab}
 use Rattle.task.specs.Task.{Task, ColumnEntry, StepEntry, Change, noColumn, noStep, noChange, Accepted, column, position, step, columnCount, stepCount, sizeOf, startAt, goalAt, costOf, changeAt, needAt, effectAt}
 use Rattle.task.specs.Tables.{mark, marked, columnEntry, changeEntry, stepEntry, taskOf}
-use Rattle.task.proofs.LoopLaws.{tab-at, tab-length, tab-ext}
+use Rattle.task.proofs.LoopLaws.{tab-at, tab-length, tab-ext, over-at}
 use Rattle.fields.specs.Judging.{Field}
 use Rattle.fields.proofs.FieldLaws.{field-lt}
 use Rattle.fields.proofs.PutLaws.{Bytes}
@@ -23,10 +23,6 @@ use Rattle.sheets.proofs.RoundLaws.{Fine, Same, same-fields, same-field, same-s
 use Rattle.unpack.specs.Unpacking.{unpacked}
 
 -- ---- the model by value is the task that the fields say
-pub over-at : {A : Type 0} (n : ℕ) (f : ℕ → A) (l : List A) (d : A) (i : ℕ) → i < n → getD (over (tab n f) l) i d ≡ f i
-unfolding over
-over-at n f l d i h = List·getD-append (tab n f) _ d i (omega (arith, tab-length n f)) ∙ tab-at n f d i h
-
 table-at : (f : ℕ → ℕ → ℕ) (n m j i : ℕ) → n ≤ 16 → j < m → i < n → getD (markTable f n m) (j * 16 + i) (mark 0) ≡ mark (f j i)
 unfolding markTable markPlace
 table-at f n m j i h hj hi =

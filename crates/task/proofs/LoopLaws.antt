@@ -158,6 +158,11 @@ pub over-length : {A : Type 0} (n : ℕ) (f : ℕ → A) (l : List A) → n ≤ 
 unfolding over
 over-length n f l h = rw (length-append, tab-length n f, length-drop) (omega arith)
 
+-- what was written stands at its place
+pub over-at : {A : Type 0} (n : ℕ) (f : ℕ → A) (l : List A) (d : A) (i : ℕ) → i < n → getD (over (tab n f) l) i d ≡ f i
+unfolding over
+over-at n f l d i h = List·getD-append (tab n f) _ d i (omega (arith, tab-length n f)) ∙ tab-at n f d i h
+
 -- the length of an array of structs, from what owning it tells
 pub length-mapped : (X Y : Type 0) (f : X → Y) (l : List X) (n : ℕ) → length (map f l) ≡ n → length l ≡ n
 length-mapped X Y f l n p = sym (length-map l f) ∙ p

@@ -16,7 +16,7 @@ use Rattle.task.specs.declared.Step.{Step}
 use Rattle.task.specs.declared.Block.{Block}
 use Rattle.task.specs.Loops.{when}
 use Rattle.task.specs.Task.{Task, State, column, position, at, columnCount, stepCount, sizeOf, needAt, effectAt, goalAt, meets, changed, isState, eachColumn, canTake, taken, isGoal}
-use Rattle.task.proofs.LoopLaws.{true-or-false, all-ext, tab-at}
+use Rattle.task.proofs.LoopLaws.{true-or-false, all-ext, tab-at, over-at}
 use Rattle.task.proofs.TaskLaws.{column-passes, per-at, position-below, taken-at}
 use Rattle.blocks.specs.Blocks.{PositionSet, holds, only, common, isEmpty, setAt, blockAt, goalIn, inBlock}
 use Rattle.blocks.specs.Flat.{past, rowOf, blocksIn}
@@ -25,7 +25,6 @@ use Rattle.blocks.proofs.SetLaws.{holds-only, holds-every, in-common, common-he
 use Rattle.blocks.proofs.PartLaws.{Parts, same-or-not}
 use Rattle.blocks.proofs.FlatLaws.{blocks-length, block-at, set-at}
 use Rattle.blocks.proofs.MaskLaws.{none-empty, only-some, lies-goal}
-use Rattle.distances.proofs.JoinLaws.{over-front}
 use Rattle.run.specs.Run.{Wanted, wantedAt, allowed, backAt, goalWanted, needWanted, backWanted, cutColumn, cutFor}
 use Rattle.run.proofs.FlawLaws.{Flaw, cut-column}
 use Rattle.run.proofs.HopLaws.{first-ext}
@@ -126,7 +125,7 @@ module _ (t : Task) (columns count : ℕ) (needs lands goals sets : List ℕ) (t
 
     pub stands-taken : Stands t (taken t s x) (takenBy columns lands here (s .0))
     unfolding Stands takenBy
-    stands-taken j k = over-front (landedAt lands here (s .0)) here columns (j .0) (rw (← wide) k) ∙ landed-is j k
+    stands-taken j k = over-at columns (landedAt lands here (s .0)) here 0 (j .0) (rw (← wide) k) ∙ landed-is j k
 
   -- ---- the cut
   module _ (good : Parts t (blocksIn columns count sets)) (is : isState t x ≡ true) (narrow : columns ≤ 16) where
