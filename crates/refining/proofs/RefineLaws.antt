@@ -153,40 +153,40 @@ module _ (columns steps : ℕ) (x : State) (needs lands goals costs : List ℕ) 
     pub far : length dist ≡ 256
     pub way : length path ≡ 256
 
-  module _ (few : spare < 256) (room : spare * 3 ≤ length cuts₀) where
-    pub growing-none : (dist path : List ℕ) → length sets₀ ≡ 4096 → length dist ≡ 256 → length path ≡ 256 → Growing cuts₀ sets₀ dist path 0
-    growing-none dist path l d p =
-        record { grown = λ t g m. grown-none t (g .task) columns (g .tables .wide) spare few cuts₀ room sets₀ l m; far = d; way = p }
+module _ {columns steps : ℕ} {x : State} {needs lands goals costs : List ℕ} {spare : ℕ} {cuts₀ sets₀ : List ℕ} (few : spare < 256) (room : spare * 3 ≤ length cuts₀) where
+  pub growing-none : {dist path : List ℕ} → length sets₀ ≡ 4096 → length dist ≡ 256 → length path ≡ 256 → Growing columns steps x needs lands goals costs spare cuts₀ sets₀ cuts₀ sets₀ dist path 0
+  growing-none l d p =
+      record { grown = λ t g m. grown-none t (g .task) columns (g .tables .wide) spare few cuts₀ room sets₀ l m; far = d; way = p }
 
-    module _ {cuts sets dist path : List ℕ} {made : ℕ} (r : Growing cuts sets dist path made) (path′ : List ℕ) (l : code.Seen)
-        (q : (t : Task) → Given t columns steps x needs lands goals costs → Made t columns made cuts sets → lookOf l path′ ≡ look t (blocksOf t (cutsIn made cuts))) where
-      -- a flaw
-      module _ {e : Tenths} {c : Cut} (f : l ≡ Flaw e c) where
-        flawed : (t : Task) → Given t columns steps x needs lands goals costs → Made t columns 0 cuts₀ sets₀ → look t (blocksOf t (cutsIn made cuts)) ≡ flaw e c
-        unfolding lookOf
-        flawed t g m = rw f at (sym (q t g (r .grown t g m .stand)))
+  module _ {cuts sets dist path : List ℕ} {made : ℕ} (r : Growing columns steps x needs lands goals costs spare cuts₀ sets₀ cuts sets dist path made) (path′ : List ℕ) (l : code.Seen)
+      (q : (t : Task) → Given t columns steps x needs lands goals costs → Made t columns made cuts sets → lookOf l path′ ≡ look t (blocksOf t (cutsIn made cuts))) where
+    -- a flaw
+    module _ {e : Tenths} {c : Cut} (f : l ≡ Flaw e c) where
+      flawed : (t : Task) → Given t columns steps x needs lands goals costs → Made t columns 0 cuts₀ sets₀ → look t (blocksOf t (cutsIn made cuts)) ≡ flaw e c
+      unfolding lookOf
+      flawed t g m = rw f at (sym (q t g (r .grown t g m .stand)))
 
-        pub flaw-fits : (t : Task) → Given t columns steps x needs lands goals costs → Made t columns 0 cuts₀ sets₀ → (c .block .0 < made + 1) × (c .column .0 < columns)
-        flaw-fits t g m = cut-fits t (g .task) columns (g .tables .wide) spare few cuts₀ room (r .grown t g m) (flawed t g m)
+      pub flaw-fits : (t : Task) → Given t columns steps x needs lands goals costs → Made t columns 0 cuts₀ sets₀ → (c .block .0 < made + 1) × (c .column .0 < columns)
+      flaw-fits t g m = cut-fits t (g .task) columns (g .tables .wide) spare few cuts₀ room (r .grown t g m) (flawed t g m)
 
-        pub growing-more : made < spare → {cuts′ sets′ dist′ : List ℕ} → cuts′ ≡ puts (made * 3) (cutPlace c) cuts → sets′ ≡ cutIn columns (made + 1) c sets → length dist′ ≡ 256 → length path′ ≡ 256
-            → Growing cuts′ sets′ dist′ path′ (made + 1)
-        growing-more h ec es d p =
-            record {
-              grown = λ t g m. grown-more t (g .task) columns (g .tables .wide) spare few cuts₀ room (r .grown t g m) (flawed t g m) h ec es;
-              far = d;
-              way = p;
-            }
+      pub growing-more : made < spare → {cuts′ sets′ dist′ : List ℕ} → cuts′ ≡ puts (made * 3) (cutPlace c) cuts → sets′ ≡ cutIn columns (made + 1) c sets → length dist′ ≡ 256 → length path′ ≡ 256
+          → Growing columns steps x needs lands goals costs spare cuts₀ sets₀ cuts′ sets′ dist′ path′ (made + 1)
+      growing-more h ec es d p =
+          record {
+            grown = λ t g m. grown-more t (g .task) columns (g .tables .wide) spare few cuts₀ room (r .grown t g m) (flawed t g m) h ec es;
+            far = d;
+            way = p;
+          }
 
-      -- the end
-      module _ (k : KnownSeen steps l path′) {o : Ended} (w : o ≡ endBy l made) where
-        pub run-full : spare ≤ made → (t : Task) → Given t columns steps x needs lands goals costs → Made t columns 0 cuts₀ sets₀ → RunEnds (refine t spare []) o steps cuts₀ cuts path′
-        run-full h t g m =
-            rw w (ends-full t (g .task) columns (g .tables .wide) spare few cuts₀ room (r .grown t g m) steps l path′ (q t g (r .grown t g m .stand)) k h)
+    -- the end
+    module _ (k : KnownSeen steps l path′) {o : Ended} (w : o ≡ endBy l made) where
+      pub run-full : spare ≤ made → (t : Task) → Given t columns steps x needs lands goals costs → Made t columns 0 cuts₀ sets₀ → RunEnds (refine t spare []) o steps cuts₀ cuts path′
+      run-full h t g m =
+          rw w (ends-full t (g .task) columns (g .tables .wide) spare few cuts₀ room (r .grown t g m) steps l path′ (q t g (r .grown t g m .stand)) k h)
 
-        pub run-early : cutOf (lookOf l path′) ≡ none → (t : Task) → Given t columns steps x needs lands goals costs → Made t columns 0 cuts₀ sets₀ → RunEnds (refine t spare []) o steps cuts₀ cuts path′
-        run-early n t g m =
-            rw w (ends-early t (g .task) columns (g .tables .wide) spare few cuts₀ room (r .grown t g m) steps l path′ (q t g (r .grown t g m .stand)) k n)
+      pub run-early : cutOf (lookOf l path′) ≡ none → (t : Task) → Given t columns steps x needs lands goals costs → Made t columns 0 cuts₀ sets₀ → RunEnds (refine t spare []) o steps cuts₀ cuts path′
+      run-early n t g m =
+          rw w (ends-early t (g .task) columns (g .tables .wide) spare few cuts₀ room (r .grown t g m) steps l path′ (q t g (r .grown t g m .stand)) k n)
 
 -- a look that is no flaw asks for no cut
 pub no-flaw : (l : code.Seen) (path : List ℕ) → ((e : Tenths) (c : Cut) → l ≡ Flaw e c → ⊥) → cutOf (lookOf l path) ≡ none

@@ -182,7 +182,7 @@ fn cut_on(
     ensures { λ r. ⌜ ((t : Task) → Given t columns steps start (now (needs .entry)) (now (lands .entry)) (now (goals .entry)) (now (costs .entry)) → Made t columns 0 (now (cuts .entry)) (now (sets .entry)) → RunEnds (refine t spare []) r steps (now (cuts .entry)) (now (cuts .exit)) (now (path .exit))) ⌝ ∗ ⌜ length (now (path .exit)) ≡ limits .blocks ⌝ }
 {
     let mut made: usize = 0;
-    while made < spare {
+    loop {
         let seen = look(
             columns,
             steps,
@@ -197,6 +197,9 @@ fn cut_on(
             dist,
             path,
         );
+        if spare <= made {
+            return end(seen, made);
+        }
         let Seen::Flaw(_, cut) = seen else {
             return end(seen, made);
         };
@@ -204,21 +207,6 @@ fn cut_on(
         make_cut(columns, made + 1, cut, sets);
         made += 1;
     }
-    let last = look(
-        columns,
-        steps,
-        made,
-        start,
-        needs,
-        lands,
-        goals,
-        costs,
-        cuts,
-        sets,
-        dist,
-        path,
-    );
-    end(last, made)
 }
 
 // A run with room for so many blocks besides the first: its cuts go into the list, and the steps of its plan into the path.
