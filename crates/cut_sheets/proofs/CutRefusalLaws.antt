@@ -1,14 +1,12 @@
 -- A cut part is refused with a number exactly when its row applies and no earlier check does.
 use Prim.Native.Nat.{ℕ}
 use native.Mathlib.Omega.{arith}
-use mathlib.Core.Path.{_≡_}
-use mathlib.Core.Logic.{_↔_}
 use mathlib.Core.List.{List, [], _∷_, _++_}
 use Rattle.task.specs.Task.{Task}
 use Rattle.fields.specs.Judging.{checksOf}
-use Rattle.fields.proofs.ExactLaws.{FirstToApply, Numbered, NumberedFields, numbered-append, fields-append, fields-each, numbered-checks, applies-first, first-refuses}
+use Rattle.fields.proofs.ExactLaws.{Numbered, NumberedFields, numbered-append, fields-append, fields-each, numbered-checks}
 use Rattle.sheets.specs.ModelSheet.{fillPart}
-use Rattle.cut_sheets.specs.CutPart.{CutSource, cutHeader, cutPart, cutFields, cutEntries, ofCutPart, cutFollows, cutChecks, judgeCuts}
+use Rattle.cut_sheets.specs.CutPart.{CutSource, cutHeader, cutPart, cutFields, cutEntries, ofCutPart, cutFollows, cutChecks}
 use Rattle.cut_sheets.proofs.CutPartLaws.{H, C, F}
 
 pub numbered-fields : (t : Task) (p : CutSource) (n : ℕ) → NumberedFields (cutFields t p n)
@@ -21,7 +19,3 @@ pub numbered-part : (t : Task) (s : List ℕ) → Numbered (cutChecks t s)
 unfolding cutChecks cutEntries
 numbered-part t s =
     numbered-append (checksOf (cutEntries t (ofCutPart s))) (cutFollows s ∷ []) (numbered-checks (cutEntries t (ofCutPart s)) (numbered-fields t (ofCutPart s) _)) (λ z. omega arith, tt)
-
-pub part-refused : (t : Task) (s : List ℕ) (n : ℕ) → (n ≡ 0 → ⊥) → (judgeCuts t s ≡ n) ↔ FirstToApply (cutChecks t s) n
-unfolding judgeCuts
-part-refused t s n z = (applies-first (cutChecks t s) (numbered-part t s) n z, first-refuses (cutChecks t s) n z)

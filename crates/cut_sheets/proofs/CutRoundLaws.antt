@@ -1,5 +1,5 @@
 -- Cuts written and read back are the same, and accepted bytes of a cut part come back the same.
-use Prim.Native.Nat.{ℕ, _+_, _-_, _*_, _^_, _≤_, _<_}
+use Prim.Native.Nat.{ℕ, _+_, _*_, _^_, _≤_, _<_}
 use native.Mathlib.Omega.{arith}
 use mathlib.Core.Path.{_≡_, refl, sym, ap, _∙_, subst}
 use mathlib.Core.List.{List, [], _++_}
@@ -13,7 +13,7 @@ use Rattle.fields.specs.Judging.{Field, Entry, judged}
 use Rattle.fields.specs.Packing.{bitsIn, sheetOf}
 use Rattle.fields.proofs.JudgingLaws.{last-both, last-went, passed, passes, no-checks}
 use Rattle.fields.proofs.PutLaws.{Bytes}
-use Rattle.fields.proofs.PackingLaws.{Holds, Fit, fit-append, fit-each, holds-fit, sheet-length, sheet-holds, sheet-bytes, sheet-only}
+use Rattle.fields.proofs.PackingLaws.{Holds, Fit, fit-append, fit-each, holds-fit, sheet-length, sheet-holds, sheet-only}
 use Rattle.blocks.specs.Blocks.{accepted, blocksOf}
 use Rattle.blocks.proofs.PartLaws.{fits}
 use Rattle.blocks.proofs.CutLaws.{blocks-length}
@@ -63,9 +63,6 @@ module _ (t : Task) (v : Accepted t) (p : CutSource) (ok : judged (cutEntries t 
 
   pub written-length : length T ≡ cutBytes n
   written-length = sheet-length E (cutBytes n) part-fits whole
-
-  pub written-bytes : Bytes T
-  written-bytes = sheet-bytes E (cutBytes n) part-fits whole
 
   written-reads : CutReads T p n
   written-reads = holds-reads t T p n (sheet-holds E (cutBytes n) part-fits whole)

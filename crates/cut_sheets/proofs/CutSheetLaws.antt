@@ -1,27 +1,27 @@
 -- The cut sheet, there and back: a given model that stands at the front of a cut sheet is its inner model, cuts written and read back are the
 -- same, and accepted bytes come back the same.
-use Prim.Native.Nat.{ℕ, _+_, _-_, _*_, _^_, _≤_, _<_}
+use Prim.Native.Nat.{ℕ, _+_, _*_, _^_, _≤_, _<_}
 use native.Mathlib.Omega.{arith}
 use mathlib.Core.Path.{_≡_, refl, sym, ap, ap₂, _∙_}
 use mathlib.Core.Bool.{true, false, not}
-use mathlib.Core.List.{List, [], _∷_, _++_}
+use mathlib.Core.List.{List, _++_}
 use lib.ListN.{length, getD, take, drop, length-append, take-append-drop, List·getD-append}
 use lib.Dec.{eqb, leb, ltb}
 use lib.Seq.{ext-getD, getD-take, getD-drop, length-take-le, drop-at}
 use borrow.Author.Tests.{leb-true, le-leb, lt-ltb, eqb-true, eq-eqb, not-false}
 use Rattle.task.specs.Task.{Task, Accepted}
 use Rattle.task.proofs.LoopLaws.{and-left, and-right, and-both, all-at, all-intro}
-use Rattle.fields.specs.Judging.{Field, Entry, judged, each, refusal, onSheet, inTable, given}
-use Rattle.fields.specs.Packing.{bitsIn, sheetOf}
+use Rattle.fields.specs.Bits.{fieldAt}
+use Rattle.fields.specs.Judging.{Field, judged, each, refusal, onSheet, inTable, given}
+use Rattle.fields.specs.Packing.{sheetOf}
 use Rattle.fields.proofs.JudgingLaws.{go, stop, neither, last-both, last-stopped, last-went, applies, passed, passes, refusal-append}
 use Rattle.fields.proofs.PartLaws.{field-take}
 use Rattle.fields.proofs.PlaceLaws.{each-length, each-at}
 use Rattle.fields.proofs.PutLaws.{Bytes}
-use Rattle.fields.proofs.PackingLaws.{Holds}
-use Rattle.sheets.specs.ModelSheet.{columnsOf, stepsOf, modelBytes, fieldsPart, ofSheet, sheetWith, entries, sheetChecks, judgeSheet, judgePart}
+use Rattle.sheets.specs.ModelSheet.{columnsOf, stepsOf, modelBytes, ofSheet, entries, sheetChecks, judgeSheet, judgePart}
 use Rattle.sheets.proofs.SheetLaws.{sheet-fine}
-use Rattle.sheets.proofs.HoldLaws.{Reads, holds-reads, sheet-bits, whole-bytes}
-use Rattle.sheets.proofs.RoundLaws.{Same, same-fields, reads-same, own-holds, own-fine, exact-length, same-field}
+use Rattle.sheets.proofs.FrontLaws.{front-counts, front-accepted}
+use Rattle.sheets.proofs.RoundLaws.{exact-length, same-field}
 use Rattle.sheets.specs.Holding.{taskOn}
 use Rattle.cut_sheets.specs.CutPart.{CutFields, cutEntries, countOf, cutOn, cutBytes, ofCutPart, cutPartWith, cutChecks, judgeCuts}
 use Rattle.cut_sheets.specs.CutSheet.{tailOf, atFront, cutSheetChecks, cutValues, cutList, cutLent, ofCuts, cutSheetOf, givenChecks}
@@ -44,37 +44,19 @@ front-append a r =
     and-both (le-leb (length a) (length (a ++ r)) (omega (arith, length-append a r)))
     (all-intro (length a) _ (λ i l. eq-eqb (getD a i 0) (getD (a ++ r) i 0) (sym (List·getD-append a r 0 i l))))
 
--- fields of the first bytes are fields of all
-holds-front : (s : List ℕ) (b at : ℕ) (es : List Entry) → at + bitsIn es ≤ 8 * b → Holds (take b s) at es → Holds s at es
-unfolding bitsIn
-holds-front s b at [] h p = tt
-holds-front s b at (e ∷ es) h p = (sym (field-take s b at (e .width) (omega arith)) ∙ p .0, holds-front s b (at + e .width) es (omega arith) (p .1))
-
 module _ (model : List ℕ) (ok : judgeSheet model ≡ 0) (s : List ℕ) (front : atFront model s ≡ true) where
-  abbrev n : ℕ
-  n = columnsOf model
+  part-ok : judgePart model ≡ 0
+  part-ok = sheet-fine model ok .0
 
-  abbrev m : ℕ
-  m = stepsOf model
+  front-fields : (at w : ℕ) → at + w ≤ 8 * modelBytes (columnsOf model) (stepsOf model) → fieldAt s at w ≡ fieldAt model at w
+  front-fields at w h = sym (field-take s (length model) at w (omega (arith, exact-length model ok))) ∙ ap (λ (x : List ℕ). fieldAt x at w) (front-take model s front .1)
 
-  inside : Reads s (ofSheet model) n m
-  unfolding entries ofSheet sheetWith
-  inside =
-      let f = front-take model s front in
-      let w : bitsIn (fieldsPart (ofSheet model) n m) ≡ 8 * length model = sheet-bits (ofSheet model) n m ∙ whole-bytes n m ∙ ap (λ (x : ℕ). 8 * x) (sym (exact-length model ok)) in
-      holds-reads s (ofSheet model) n m (holds-front s (length model) 0 (fieldsPart (ofSheet model) n m) (omega arith) (rw (f .1) (own-holds model ok)))
+  long : modelBytes (columnsOf model) (stepsOf model) ≤ length s
+  long = omega (arith, exact-length model ok, front-take model s front .0)
 
-  -- the counts of the inner model are those of the given one
-  pub same-columns : columnsOf s ≡ columnsOf model
-  unfolding ofSheet sheetWith
-  same-columns = inside .columns
-
-  pub same-steps : stepsOf s ≡ stepsOf model
-  unfolding ofSheet sheetWith
-  same-steps = inside .steps
-
+  -- the inner model has as many bytes as the given one
   pub inner-bytes : modelBytes (columnsOf s) (stepsOf s) ≡ length model
-  inner-bytes = ap₂ modelBytes same-columns same-steps ∙ sym (exact-length model ok)
+  inner-bytes = let c = front-counts model part-ok s front-fields long in ap₂ modelBytes (c .0) (c .1) ∙ sym (exact-length model ok)
 
   -- the cut part starts where the given sheet ends
   pub tail-is : tailOf s ≡ drop (length model) s
@@ -84,13 +66,9 @@ module _ (model : List ℕ) (ok : judgeSheet model ≡ 0) (s : List ℕ) (front 
   pub whole-is : model ++ tailOf s ≡ s
   whole-is = let f = front-take model s front in ap (λ (l : List ℕ). model ++ l) tail-is ∙ ap (λ (l : List ℕ). l ++ drop (length model) s) (sym (f .1)) ∙ take-append-drop (length model) s
 
-  inner-same : Same (sheetWith s n m) (ofSheet model) n m
-  inner-same = reads-same s (ofSheet model) n m (own-fine model ok) inside (omega (arith, front-take model s front .0, exact-length model ok))
-
   -- the inner model has the given model's fields, so that it gets no refusal of its own
-  pub inner-entries : entries (ofSheet s) ≡ entries (ofSheet model)
-  unfolding entries ofSheet sheetWith
-  inner-entries = ap₂ (λ (x y : ℕ). fieldsPart (sheetWith s x y) x y) same-columns same-steps ∙ same-fields (sheetWith s n m) (ofSheet model) n m inner-same
+  pub inner-accepted : judgePart s ≡ 0
+  inner-accepted = front-accepted model part-ok s front-fields long
 
 -- ---- the refusal of a cut sheet
 module _ (model s : List ℕ) where
@@ -101,7 +79,7 @@ module _ (model s : List ℕ) where
   pub front-refusal : judgeSheet model ≡ 0 → atFront model s ≡ true → refusal (cutSheetChecks model s) ≡ judgeCuts t (tailOf s)
   unfolding cutSheetChecks judgeSheet judgeCuts judged judgePart
   front-refusal ok front =
-      let inner : judged (entries (ofSheet s)) ≡ 0 = ap judged (inner-entries model ok s front) ∙ sheet-fine model ok .0 in
+      let inner : judged (entries (ofSheet s)) ≡ 0 = inner-accepted model ok s front in
       refusal-append (sheetChecks model) _ ∙ go (refusal (sheetChecks model)) _ ok
       ∙ sym (last-went (entries (ofSheet s)) _ (sym inner) refl (passes 10 (not (atFront model s)) (cutChecks t (tailOf s)) (rw front) refl))
 

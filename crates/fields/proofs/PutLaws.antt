@@ -95,16 +95,11 @@ bit-other k b l j hb n = split (decLt (k / 8) (length l)) (ℕ-discrete (j / 8) 
     split (yes p) (no q) = rw (getD-set-other l (k / 8) (j / 8) y 0 q) refl
     split (no p) q = rw (set-out l (k / 8) y (omega arith)) refl
 
--- the bits outside a field that was put are as they were
+-- the bits before a field that was put are as they were
 pub field-before : (at w v : ℕ) (l : List ℕ) (j : ℕ) → j < at → bitAt (putField at w v l) j ≡ bitAt l j
 unfolding putField
 field-before at zero v l j h = refl
 field-before at (suc w) v l j h = bit-other (at + w) (v % 2) (putField at w (v / 2) l) j (omega arith) (omega arith) ∙ field-before at w (v / 2) l j h
-
-pub field-after : (at w v : ℕ) (l : List ℕ) (j : ℕ) → at + w ≤ j → bitAt (putField at w v l) j ≡ bitAt l j
-unfolding putField
-field-after at zero v l j h = refl
-field-after at (suc w) v l j h = bit-other (at + w) (v % 2) (putField at w (v / 2) l) j (omega arith) (omega arith) ∙ field-after at w (v / 2) l j (omega arith)
 
 -- a field goes by its bits alone
 pub field-cong : (s t : List ℕ) (at w : ℕ) → ((k : ℕ) → k < w → bitAt s (at + k) ≡ bitAt t (at + k)) → fieldAt s at w ≡ fieldAt t at w
@@ -154,13 +149,6 @@ put-field s l at (suc w) hl k h = split (put-field s l at w (omega arith) k) (de
 -- the bits of s and t agree before p
 abbrev pub Agree : ℕ → List ℕ → List ℕ → Type 0
 Agree p s t = (k : ℕ) → k < p → bitAt s k ≡ bitAt t k
-
--- another field is as it was
-pub field-kept : (at w v : ℕ) (l : List ℕ) (a u : ℕ) → a + u ≤ at → fieldAt (putField at w v l) a u ≡ fieldAt l a u
-field-kept at w v l a u h = field-cong (putField at w v l) l a u (λ k q. field-before at w v l (a + k) (omega arith))
-
-pub field-kept-after : (at w v : ℕ) (l : List ℕ) (a u : ℕ) → at + w ≤ a → fieldAt (putField at w v l) a u ≡ fieldAt l a u
-field-kept-after at w v l a u h = field-cong (putField at w v l) l a u (λ k q. field-after at w v l (a + k) (omega arith))
 
 -- the first w bits of byte i are its highest
 high-bits : (s : List ℕ) (i w d : ℕ) → w + d ≡ 8 → getD s i 0 < 256 → fieldAt s (8 * i) w ≡ getD s i 0 / 2 ^ d
@@ -251,15 +239,3 @@ field-bits s t at (suc w) e k h = split (field-bits s t at w front k) (decLt k w
     split : (k < w → bitAt s (at + k) ≡ bitAt t (at + k)) → Dec (k < w) → bitAt s (at + k) ≡ bitAt t (at + k)
     split ih (yes p) = ih p
     split ih (no p) = let q : k ≡ w = omega arith in rw q last
-
--- a field put over the same value does nothing
-pub put-own : (at w : ℕ) (l : List ℕ) → Bytes l → at + w ≤ 8 * length l → putField at w (fieldAt l at w) l ≡ l
-put-own at w l h q = same-bits (putField at w (fieldAt l at w) l) l (length-field at w _ l) (bytes-field at w _ l h) h agree
-  where
-    bits : (k : ℕ) → Dec (k < at) → Dec (k < at + w) → bitAt (putField at w (fieldAt l at w) l) k ≡ bitAt l k
-    bits k (yes p) r = field-before at w _ l k p
-    bits k (no p) (no r) = field-after at w _ l k (omega arith)
-    bits k (no p) (yes r) = let d : at + (k - at) ≡ k = omega arith in rw d at (put-field l l at w q (k - at) (omega arith))
-
-    agree : Agree (8 * length (putField at w (fieldAt l at w) l)) (putField at w (fieldAt l at w) l) l
-    agree k s = bits k (decLt k at) (decLt k (at + w))

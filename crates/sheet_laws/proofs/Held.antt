@@ -17,7 +17,7 @@ use Rattle.task.proofs.LoopLaws.{tab-at, tab-length, tab-ext, over-at}
 use Rattle.fields.specs.Judging.{Field}
 use Rattle.fields.proofs.FieldLaws.{field-lt}
 use Rattle.fields.proofs.PutLaws.{Bytes}
-use Rattle.sheets.specs.ModelSheet.{Source, MarkFields, columnsIn, stepsIn, entries, fieldsPart, modelBits, columnsOf, stepsOf, costOn, sheetWith, ofSheet, judgeSheet}
+use Rattle.sheets.specs.ModelSheet.{Source, MarkFields, columnsIn, stepsIn, entries, fieldsPart, modelBits, columnsOf, costOn, sheetWith, ofSheet, judgeSheet}
 use Rattle.sheets.specs.Holding.{columnSaid, changeSaid, stepSaid, taskIn, unused, markPlace, markTable, modelOf}
 use Rattle.sheets.proofs.RoundLaws.{Fine, Same, same-fields, same-field, same-sheets, own-fine}
 use Rattle.unpack.specs.Unpacking.{unpacked}
@@ -141,10 +141,6 @@ module _ (s : List ℕ) (ok : judgeSheet s ≡ 0) where
 
   abbrev T : Task
   T = taskIn (ofSheet s)
-
-  counts : (columnsIn P ≡ columnsOf s) × (stepsIn P ≡ stepsOf s)
-  unfolding ofSheet sheetWith
-  counts = (refl, refl)
 
   ok-fine : Fine P (columnsIn P) (stepsIn P)
   unfolding ofSheet sheetWith

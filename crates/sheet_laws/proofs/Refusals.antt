@@ -2,7 +2,7 @@
 -- check does, and a refusal leaves everything lent as found.
 -- The checks, in 01's order, are `readChecks` and `writeChecks`: for each field of `entries` in sheet order 1 where it is not complete and
 -- then its own number where its value is bad; then, for a reader, 6 where bytes follow; and last 8 for each table.
-use Prim.Native.Nat.{ℕ, _+_}
+use Prim.Native.Nat.{ℕ}
 use native.Mathlib.Omega.{arith}
 use mathlib.Core.Path.{_≡_, refl, sym, ap, _∙_}
 use mathlib.Core.Bool.{Bool, true, false}
@@ -48,15 +48,6 @@ module _ (s : List ℕ) where
       split : (b : Bool) → eqb (judgeSheet s) 0 ≡ b → pick b (answer 0 (modelOf (ofSheet s))) (answer (judgeSheet s) noModel) .code ≡ judgeSheet s
       split true h = sym (eqb-true (judgeSheet s) 0 h)
       split false h = refl
-
-  module _ (n : ℕ) (some : n ≡ 0 → ⊥) where
-    pub unpack-only : unpacked s .code ≡ n → FirstToApply (sheetChecks s) n
-    unfolding judgeSheet
-    unpack-only e = applies-first (sheetChecks s) numbered-sheet n some (sym code-judged ∙ e)
-
-    pub unpack-whenever : FirstToApply (sheetChecks s) n → unpacked s .code ≡ n
-    unfolding judgeSheet
-    unpack-whenever r = code-judged ∙ first-refuses (sheetChecks s) n some r
 
 -- ---- the reader
 module _ (s frame costs marks : List ℕ) where

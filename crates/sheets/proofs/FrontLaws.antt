@@ -2,17 +2,17 @@
 use Prim.Native.Nat.{ℕ, suc, _+_, _*_, _≤_, _<_}
 use native.Mathlib.Omega.{arith}
 use mathlib.Core.Path.{_≡_, refl, sym, ap, ap₂, _∙_, subst}
-use mathlib.Core.List.{List, _++_}
-use lib.ListN.{length, take, length-append}
-use lib.Seq.{length-take-le, take-append-seam}
+use mathlib.Core.List.{List}
+use lib.ListN.{length, take}
+use lib.Seq.{length-take-le}
 use borrow.Author.Tests.{leb-true}
 use Rattle.fields.specs.Bits.{fieldAt}
 use Rattle.fields.specs.Judging.{judged}
 use Rattle.fields.proofs.PartLaws.{field-take}
 use Rattle.sheets.specs.ModelSheet.{modelBits, modelBytes, fillBits, fieldsPart, entries, columnsOf, stepsOf, columnOn, costOn, marksOn, sheetWith, ofSheet, judgePart, judgeSheet}
-use Rattle.sheets.proofs.SheetLaws.{sheet-fine, sheet-whole}
+use Rattle.sheets.proofs.SheetLaws.{sheet-whole}
 use Rattle.sheets.proofs.HoldLaws.{Reads, whole-bytes}
-use Rattle.sheets.proofs.RoundLaws.{Fine, Same, accepted, same-fields, reads-same, bits-next, bits-mono, base, exact-length}
+use Rattle.sheets.proofs.RoundLaws.{Fine, Same, accepted, same-fields, reads-same, bits-next, bits-mono, base}
 
 module _ (s : List ℕ) (ok : judgePart s ≡ 0) where
   abbrev b : ℕ
@@ -80,28 +80,7 @@ module _ (s : List ℕ) (ok : judgePart s ≡ 0) where
   taken : length (take b s) ≡ b
   taken = length-take-le b s part-length
 
-  pub taken-entries : entries (ofSheet (take b s)) ≡ entries (ofSheet s)
-  taken-entries = front-entries (take b s) front-take (omega (arith, taken))
-
   pub taken-accepted : judgeSheet (take b s) ≡ 0
   taken-accepted =
       sym (sheet-whole (take b s) (sym (front-accepted (take b s) front-take (omega (arith, taken)))) refl
       (subst (λ (x : ℕ). length (take b s) ≤ x) (sym (ap₂ modelBytes (front-counts (take b s) front-take (omega (arith, taken)) .0) (front-counts (take b s) front-take (omega (arith, taken)) .1))) (omega (arith, taken))))
-
--- bytes that follow an accepted sheet leave its part accepted, with the same fields
-module _ (s r : List ℕ) (ok : judgeSheet s ≡ 0) where
-  front-append : (at w : ℕ) → at + w ≤ 8 * modelBytes (columnsOf s) (stepsOf s) → fieldAt (s ++ r) at w ≡ fieldAt s at w
-  front-append at w h =
-      sym (field-take (s ++ r) (length s) at w (omega (arith, exact-length s ok))) ∙ ap (λ (x : List ℕ). fieldAt x at w) (take-append-seam s r)
-
-  long-append : modelBytes (columnsOf s) (stepsOf s) ≤ length (s ++ r)
-  long-append = omega (arith, exact-length s ok, length-append s r)
-
-  pub appended-entries : entries (ofSheet (s ++ r)) ≡ entries (ofSheet s)
-  appended-entries = front-entries s (sheet-fine s ok .0) (s ++ r) front-append long-append
-
-  pub appended-accepted : judgePart (s ++ r) ≡ 0
-  appended-accepted = front-accepted s (sheet-fine s ok .0) (s ++ r) front-append long-append
-
-  pub appended-counts : (columnsOf (s ++ r) ≡ columnsOf s) × (stepsOf (s ++ r) ≡ stepsOf s)
-  appended-counts = front-counts s (sheet-fine s ok .0) (s ++ r) front-append long-append

@@ -1,5 +1,5 @@
 -- What stands where on a sheet: the fields in sheet order, packed without gaps, are at the positions that are read.
-use Prim.Native.Nat.{ℕ, _+_, _-_, _*_, _<_}
+use Prim.Native.Nat.{ℕ, _+_, _*_, _<_}
 use native.Mathlib.Omega.{arith}
 use mathlib.Core.Path.{_≡_, refl, sym, ap, subst}
 use mathlib.Core.List.{List, _++_}

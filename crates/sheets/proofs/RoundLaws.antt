@@ -1,5 +1,5 @@
 -- There and back: what an accepted model says of each field, what its sheet is read as, and that a sheet is written as it was read.
-use Prim.Native.Nat.{ℕ, suc, _+_, _-_, _*_, _≤_, _<_}
+use Prim.Native.Nat.{ℕ, suc, _+_, _*_, _≤_, _<_}
 use native.Mathlib.Nat.{mul-le-mul, le-refl, suc-mul}
 use native.Mathlib.Omega.{arith}
 use mathlib.Core.Path.{_≡_, refl, sym, ap, ap₂, _∙_, subst}
@@ -13,7 +13,7 @@ use Rattle.fields.specs.Judging.{Field, Entry, onSheet, entry, free, outside, j
 use Rattle.fields.specs.Packing.{bitsIn, sheetOf}
 use Rattle.fields.proofs.JudgingLaws.{first-fine, fine, judged-at, inside-means, sheet-here, each-ext}
 use Rattle.fields.proofs.PutLaws.{Bytes}
-use Rattle.fields.proofs.PackingLaws.{Holds, Fit, fit-append, fit-each, holds-fit, sheet-length, sheet-holds, sheet-bytes, sheet-only}
+use Rattle.fields.proofs.PackingLaws.{Holds, Fit, fit-append, fit-each, holds-fit, sheet-length, sheet-holds, sheet-only}
 use Rattle.sheets.specs.ModelSheet.{Source, ColumnFields, MarkFields, headerPart, columnPart, marksPart, stepPart, fillPart, modelBits, modelBytes, fillBits, fieldsPart, columnsIn, stepsIn, entries, columnsOf, stepsOf, columnOn, costOn, marksOn, sheetWith, ofSheet, judgePart, judgeSheet}
 use Rattle.sheets.proofs.SheetLaws.{H, C, S, F, parts-fine, HeaderFine, header-fine, sheet-fine, sheet-whole}
 use Rattle.sheets.proofs.HoldLaws.{Reads, holds-reads, reads-holds, sheet-bits, whole-bytes}
@@ -196,9 +196,6 @@ module _ (p : Source) (ok : judged (entries p) ≡ 0) (costs : (j : ℕ) → j <
 
   pub written-length : length T ≡ modelBytes n m
   written-length = sheet-length E (modelBytes n m) fits whole
-
-  pub written-bytes : Bytes T
-  written-bytes = sheet-bytes E (modelBytes n m) fits whole
 
   written-reads : Reads T p n m
   written-reads = holds-reads T p n m (sheet-holds E (modelBytes n m) fits whole)

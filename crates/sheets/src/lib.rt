@@ -3,7 +3,7 @@ ghost use mathlib.Core.Path.{_≡_};
 ghost use Prim.Native.Nat.{_≤_, _<_};
 ghost use Rattle.task.specs.Sizes.{limits};
 ghost use Rattle.fields.specs.Judging.{onSheet, judged, each};
-ghost use Rattle.sheets.specs.ModelSheet.{modelBits, headerPart, columnPart, marksPart, stepPart, columnsOf, stepsOf, columnOn, costOn, marksOn, judgePart, judgeSheet};
+ghost use Rattle.sheets.specs.ModelSheet.{modelBits, headerPart, columnPart, marksPart, stepPart, columnOn, costOn, marksOn, judgePart, judgeSheet};
 use fields::field::field;
 use fields::field::judge_below;
 use fields::field::judge_field;

@@ -2,7 +2,7 @@ use Rattle.fields.specs.Bits.{bitAt}
 use native.Mathlib.Nat.{zero-div}
 use lib.ListN.{List·getD-eq-default}
 use mathlib.Core.Path.{refl}
-use Prim.Native.Nat.{_/_, _-_}
+use Prim.Native.Nat.{_/_}
 use native.Mathlib.Omega.{arith}
 use borrow.Author.Needs.{needs}
 use Rattle.fields.proofs.bits.bit.Statement.{statement}

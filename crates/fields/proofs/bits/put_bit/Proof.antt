@@ -2,7 +2,7 @@ use Rattle.fields.specs.Bits.{putBit}
 use lib.Seq.{set-out}
 use lib.ListN.{set}
 use mathlib.Core.Path.{sym, ap}
-use Prim.Native.Nat.{_/_, _-_}
+use Prim.Native.Nat.{_/_}
 use native.Mathlib.Omega.{arith}
 use borrow.Author.Needs.{needs}
 use Rattle.fields.proofs.bits.put_bit.Statement.{statement}

@@ -2,7 +2,6 @@ use native.Mathlib.Omega.{arith}
 use mathlib.Core.Path.{refl}
 use Rattle.fields.specs.Judging.{given, outside}
 use Rattle.fields.proofs.JudgingLaws.{spoilt, good, below-low, above-high, inside}
-use borrow.Author.Needs.{needs}
 use Rattle.fields.proofs.place.judge_number.Statement.{statement}
 use Rattle.fields.proofs.place.judge_number.Tie as tie
 use Rattle.fields.proofs.place.judge_number.Reads as reads

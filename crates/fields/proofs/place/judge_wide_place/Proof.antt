@@ -3,7 +3,6 @@ use mathlib.Core.Bool.{false}
 use mathlib.Core.Path.{refl}
 use Rattle.fields.specs.Judging.{inTable}
 use Rattle.fields.proofs.JudgingLaws.{cut, good, place-here, place-cut}
-use borrow.Author.Needs.{needs}
 use Rattle.fields.proofs.place.judge_wide_place.Statement.{statement}
 use Rattle.fields.proofs.place.judge_wide_place.Tie as tie
 use Rattle.fields.proofs.place.judge_wide_place.Reads as reads

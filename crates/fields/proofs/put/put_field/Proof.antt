@@ -3,7 +3,6 @@ use Rattle.fields.proofs.PutLaws.{put-none, put-more, put-all, length-f
 use Rattle.fields.specs.Bits.{putField}
 use mathlib.Core.Path.{_≡_, ap, _∙_}
 use Prim.Native.Nat.{_/_, _-_, _^_, _≤_}
-use borrow.Author.Needs.{needs}
 use native.Mathlib.Omega.{arith}
 use Rattle.fields.proofs.put.put_field.Statement.{statement}
 use Rattle.fields.proofs.put.put_field.Tie as tie
