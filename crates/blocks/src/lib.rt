@@ -15,7 +15,6 @@ use task::Block;
 use task::Column;
 use task::Mark;
 use task::Model;
-use task::Position;
 use task::State;
 use task::Step;
 

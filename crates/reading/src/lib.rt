@@ -7,7 +7,7 @@ ghost use lib.ListN.{length};
 ghost use Rattle.task.specs.Sizes.{limits};
 ghost use Rattle.fields.specs.Judging.{check, refusal, each};
 ghost use Rattle.fields.specs.Places.{puts};
-ghost use Rattle.sheets.specs.ModelSheet.{columnsOf, columnOn, costOn, marksOn};
+ghost use Rattle.sheets.specs.ModelSheet.{columnOn, costOn, marksOn};
 ghost use Rattle.sheets.specs.LentTables.{columnValues, costValue, markValues, stepValues};
 ghost use Rattle.reading.specs.Reading.{outcome, reading};
 use fields::field::field;

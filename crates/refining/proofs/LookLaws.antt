@@ -21,13 +21,11 @@ use Rattle.distances.specs.Ways.{noWay}
 use Rattle.distances.specs.Coded.{decoded, codedAt, codedOver}
 use Rattle.distances.proofs.JoinLaws.{far-small, coded-says, decoded-low, decoded-high}
 use Rattle.run.specs.Hops.{Holds}
-use Rattle.run.specs.Run as run
 use Rattle.run.specs.Run.{Look, hopeless, lookFrom, look}
 use Rattle.walk.specs.declared.Found.{Found}
 use Rattle.walk.specs.declared.Found.the-variants as walk
 use Rattle.walk.specs.Walking.{Stands, Begins, seen, Known, walked}
 use Rattle.refining.specs.Listing.{pathSteps}
-use Rattle.refining.specs.declared.Seen.the-variants.{Flaw}
 use Rattle.refining.specs.Refining.{Given, Made, lookOf, toldBy, KnownSeen}
 
 -- ---- what was told of a walk

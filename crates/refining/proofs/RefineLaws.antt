@@ -12,7 +12,7 @@ use Rattle.fields.specs.Places.{puts}
 use Rattle.fields.proofs.PlaceLaws.{puts-length, puts-over}
 use Rattle.blocks.specs.declared.Cut.{Cut}
 use Rattle.blocks.specs.Blocks.{accepted, blocksOf}
-use Rattle.blocks.specs.Flat.{blocksIn, cutsIn, cutIn}
+use Rattle.blocks.specs.Flat.{cutsIn, cutIn}
 use Rattle.blocks.proofs.PartLaws.{fits}
 use Rattle.blocks.proofs.CutLaws.{blocks-length}
 use Rattle.blocks.proofs.FlatLaws.{cut-in-length}

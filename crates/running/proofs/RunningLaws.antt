@@ -29,7 +29,7 @@ use Rattle.refining.specs.declared.Ended.the-variants as ended
 use Rattle.refining.specs.Listing.{listed, rowPlace, pathSteps}
 use Rattle.refining.specs.Refining.{answerOf, blocksTold, KnownEnd, StepsFit, RunEnds}
 use Rattle.running.specs.declared.Answer.{Answer}
-use Rattle.running.specs.declared.Answer.the-variants.{Plan, NoPlan, Open, Refused}
+use Rattle.running.specs.declared.Answer.the-variants.{Plan, Refused}
 use Rattle.running.specs.Running.{PathCosts, roomChecks, runChecks, told, outcome, running}
 use Rattle.running.specs.Running as specs
 

@@ -1,5 +1,5 @@
 use Rattle.unpack.proofs.UnpackLaws.{mark-there, mark-none}
-use Prim.Native.Nat.{ℕ, _+_, _*_, _-_, _%_}
+use Prim.Native.Nat.{ℕ, _+_, _*_, _%_}
 use native.Mathlib.Omega.{arith}
 use mathlib.Core.Path.{ap, _∙_}
 use Rattle.fields.proofs.FieldLaws.{field-lt}

@@ -1,6 +1,5 @@
 use mathlib.Core.Path.{refl}
 use Rattle.sheets.specs.Holding.{noModel, unused}
-use borrow.Author.Needs.{needs}
 use Rattle.unpack.proofs.no_model.Statement.{statement}
 use Rattle.unpack.proofs.no_model.Tie as tie
 use Rattle.unpack.proofs.no_model.Reads as reads

@@ -4,7 +4,7 @@ use Rattle.sheets.specs.ModelSheet.{marksPart}
 use Rattle.sheets.specs.LentTables.{marksIn}
 use mathlib.Core.Path.{refl, ap}
 use native.Mathlib.Omega.{arith}
-use Prim.Native.Nat.{ℕ, _+_, _*_, _-_}
+use Prim.Native.Nat.{ℕ, _+_, _*_}
 use borrow.Author.Needs.{needs}
 use Rattle.writing.proofs.put.put_marks.Statement.{statement}
 use Rattle.writing.proofs.put.put_marks.Tie as tie
