@@ -16,37 +16,29 @@ use Rattle.asking.proofs.measure.Reads as measure-reads
 use Rattle.cut_reading.proofs.fill_cuts.Reads as fill-cuts-reads
 use Rattle.fields.proofs.field.field.Reads as field-reads
 
--- src/lib.rt:127:17
 field-requires : tie.Need-field-requires
 field-requires c κs = search needs
 
--- src/lib.rt:127:17
 cast-count : tie.Need-cast-count
 cast-count c = search needs
 
--- src/lib.rt:129:28
 slice-aggregate-fill-cuts : tie.Need-slice-aggregate-fill-cuts
 slice-aggregate-fill-cuts c = search needs
 
--- src/lib.rt:129:5
 fill-cuts-requires : tie.Need-fill-cuts-requires
 fill-cuts-requires c κs = let h = count-below (c .before .before .before .before .before .args .part .now) (c .before .field .ensures) in
     (h, search (needs, h))
 
--- src/lib.rt:131:20
 add-measure : tie.Need-add-measure
 add-measure c = search needs
 
--- src/lib.rt:131:5
 measure-requires : tie.Need-measure-requires
 measure-requires c κs = let h = count-below (c .before .before .before .before .before .before .before .before .args .part .now) (c .before .before .before .before .field .ensures) in
     (c .before .before .before .before .before .before .before .before .pre .0, omega (arith, h), search needs)
 
--- src/lib.rt:132:36
 slice-aggregate-fill-estimates : tie.Need-slice-aggregate-fill-estimates
 slice-aggregate-fill-estimates c = search needs
 
--- src/lib.rt:132:5
 fill-estimates-requires : tie.Need-fill-estimates-requires
 unfolding statesIn
 fill-estimates-requires c κs = let g = c .before .before .before .before .before .before .before .before .before .before .before .before .args in
@@ -57,11 +49,9 @@ fill-estimates-requires c κs = let g = c .before .before .before .before .befor
     let h = count-below (g .part .now) e in
     (omega (arith, v .columns .0, columns-of m), omega (arith, v .columns .1, columns-of m), h, search (needs, h), rw (columns-of m) at (few-states (taskOf m) (g .states .now) (p .3)), rw (columns-of m) at (p .4), column-small m v (g .part .now) (g .sets .now) (p .1) (p .2) e h (replicate 765 0) (search (needs, h)) (c .before .before .before .before .before .before .fill-cuts .ensures), byte-fits (taskOf m) (g .states .now) (p .3) v, dist-small m v (g .part .now) (g .sets .now) (p .1) (p .2) e h (replicate 765 0) (search (needs, h)) (c .before .before .before .before .before .before .fill-cuts .ensures) (replicate 256 0) (c .before .before .before .measure .ensures))
 
--- src/lib.rt:116:1
 same-length : tie.Need-same-length
 same-length c = search needs
 
--- src/lib.rt:116:1
 returns : tie.Need-returns
 returns c = let g = c .before .before .before .before .before .before .before .before .before .before .before .before .before .before .before .args in
     let p = c .before .before .before .before .before .before .before .before .before .before .before .before .before .before .before .pre in

@@ -14,30 +14,24 @@ use Rattle.blocks.proofs.fill_lands.Reads as fill-lands-reads
 use Rattle.blocks.proofs.fill_needs.Reads as fill-needs-reads
 use Rattle.distances.proofs.fill_distances.Reads as fill-distances-reads
 
--- src/lib.rt:102:5
 fill-needs-requires : tie.Need-fill-needs-requires
 fill-needs-requires c κs = search needs
 
--- src/lib.rt:104:5
 fill-lands-requires : tie.Need-fill-lands-requires
 fill-lands-requires c κs = search needs
 
--- src/lib.rt:106:5
 fill-goals-requires : tie.Need-fill-goals-requires
 fill-goals-requires c κs = search needs
 
--- src/lib.rt:107:67
 slice-aggregate-fill-distances : tie.Need-slice-aggregate-fill-distances
 slice-aggregate-fill-distances c = search needs
 
--- src/lib.rt:107:5
 fill-distances-requires : tie.Need-fill-distances-requires
 fill-distances-requires c κs = let m = c .before .before .before .before .before .before .before .before .before .before .before .before .args .model in
     let v = c .before .before .before .before .before .before .before .before .before .before .before .before .pre .0 in
     let l : length (m .cost) ≡ 128 = search needs in
     (omega (arith, v .columns .1, columns-of m), omega (arith, v .steps, steps-of m), omega (arith, l, v .steps, steps-of m), c .before .before .before .before .before .before .before .before .before .before .before .before .pre .1, c .before .before .before .before .before .before .before .before .before .before .before .before .pre .2)
 
--- src/lib.rt:89:1
 returns : tie.Need-returns
 returns c = let m = c .before .before .before .before .before .before .before .before .before .before .before .before .before .args .model in
     c .fill-distances .ensures .0 (taskOf m) (rw (c .before .before .before .before .before .before .before .before .before .before .fill-needs .ensures, c .before .before .before .before .before .before .before .before .fill-lands .ensures, c .before .before .before .before .before .before .fill-goals .ensures) (model-tables m (c .before .before .before .before .before .before .before .before .before .before .before .before .before .pre .0)))

@@ -12,91 +12,71 @@ use Rattle.reading.proofs.fill_column.Reads as reads
 use Rattle.reading.proofs.fill_column.Lts as lts
 use Rattle.fields.proofs.field.field.Reads as field-reads
 
--- src/lib.rt:43:19
 mul-at : tie.Need-mul-at
 mul-at c = search needs
 
--- src/lib.rt:43:14
 add-at : tie.Need-add-at
 add-at c = search needs
 
--- src/lib.rt:44:17
 mul-place : tie.Need-mul-place
 mul-place c = search needs
 
--- src/lib.rt:45:20
 field-requires : tie.Need-field-requires
 field-requires c κs = search needs
 
--- src/lib.rt:45:20
 cast-frame : tie.Need-cast-frame
 cast-frame c =
     let a = c .before .before .before .args in
     omega (arith, field-lt (a .s .now) (17 + a .i * 17) 6)
 
--- src/lib.rt:45:5
 slice-write-frame : tie.Need-slice-write-frame
 slice-write-frame c = search needs
 
--- src/lib.rt:46:33
 add-field : tie.Need-add-field
 add-field c = search needs
 
--- src/lib.rt:46:24
 field-requires-2 : tie.Need-field-requires-2
 field-requires-2 c κs = search needs
 
--- src/lib.rt:46:24
 cast-frame-2 : tie.Need-cast-frame-2
 cast-frame-2 c =
     let a = c .before .before .before .before .args in
     omega (arith, field-lt (a .s .now) (17 + a .i * 17 + 6) 5)
 
--- src/lib.rt:46:11
 add-frame : tie.Need-add-frame
 add-frame c = search needs
 
--- src/lib.rt:46:5
 slice-write-frame-2 : tie.Need-slice-write-frame-2
 slice-write-frame-2 c =
     simp length-set (omega arith)
 
--- src/lib.rt:47:37
 add-field-2 : tie.Need-add-field-2
 add-field-2 c = search needs
 
--- src/lib.rt:47:37
 add-field-3 : tie.Need-add-field-3
 add-field-3 c = search needs
 
--- src/lib.rt:47:28
 field-requires-3 : tie.Need-field-requires-3
 field-requires-3 c κs = search needs
 
--- src/lib.rt:47:28
 cast-frame-3 : tie.Need-cast-frame-3
 cast-frame-3 c =
     let a = c .before .before .before .before .before .args in
     omega (arith, field-lt (a .s .now) (17 + a .i * 17 + 6 + 5) 6)
 
--- src/lib.rt:47:11
 add-frame-2 : tie.Need-add-frame-2
 add-frame-2 c = search needs
 
--- src/lib.rt:47:11
 add-frame-3 : tie.Need-add-frame-3
 add-frame-3 c = search needs
 
--- src/lib.rt:47:5
 slice-write-frame-3 : tie.Need-slice-write-frame-3
 slice-write-frame-3 c =
     simp length-set (omega arith)
 
--- src/lib.rt:39:1
 same-length : tie.Need-same-length
 same-length c = search needs
 
--- src/lib.rt:39:1
 returns : tie.Need-returns
 unfolding puts columnValues columnOn
 returns c =

@@ -27,45 +27,36 @@ abbrev μ-loop : tie.MeasureT-loop
 μ-loop s n m costs₀ j₀ costs j =
     m - j
 
--- src/lib.rt:66:5
 loop-holds : tie.Need-loop-holds Inv-loop μ-loop
 loop-holds c =
     (omega arith, puts-none _ _ _)
 
--- src/lib.rt:67:29
 model-bits-requires : tie.Need-model-bits-requires Inv-loop μ-loop
 model-bits-requires c κs = search needs
 
--- src/lib.rt:67:20
 field-requires : tie.Need-field-requires Inv-loop μ-loop
 field-requires c κs = search needs
 
--- src/lib.rt:67:20
 cast-costs : tie.Need-cast-costs Inv-loop μ-loop
 cast-costs c =
     let a = c .before .before .before .before .before .before .args in
     omega (arith, field-lt (a .s .now) (c .before .model-bits .result) 16)
 
--- src/lib.rt:67:9
 mul-costs : tie.Need-mul-costs Inv-loop μ-loop
 mul-costs c = search needs
 
--- src/lib.rt:67:9
 slice-write-costs : tie.Need-slice-write-costs Inv-loop μ-loop
 slice-write-costs c =
     let a = c .before .before .before .before .before .before .args in
     let l = c .before .before .before .loop in
     omega (arith, ap length (l .inv .1), puts-length 0 (each (l .j) (costValue (costOn (a .s .now) (a .n)))) (a .costs .now))
 
--- src/lib.rt:68:9
 add-j : tie.Need-add-j Inv-loop μ-loop
 add-j c = search needs
 
--- src/lib.rt:66:5
 loop-less : tie.Need-loop-less Inv-loop μ-loop
 loop-less c = search needs
 
--- src/lib.rt:66:5
 loop-again : tie.Need-loop-again Inv-loop μ-loop
 unfolding puts costValue costOn
 loop-again c =
@@ -74,12 +65,10 @@ loop-again c =
     let e : c .field .result ≡ fieldAt (a .s .now) (modelBits (a .n) (l .j)) 16 = c .field .ensures ∙ ap (λ (x : ℕ). fieldAt (a .s .now) x 16) (c .before .model-bits .ensures .0) in
     (omega arith, (λ k. set (l .costs) (sym (mul-one (l .j)) k) (e k)) ∙ puts-next (costValue (costOn (a .s .now) (a .n))) 1 (cost-length (costOn (a .s .now) (a .n))) (l .j) (a .costs .now) (l .inv .1))
 
--- src/lib.rt:61:1
 same-length : tie.Need-same-length Inv-loop μ-loop
 same-length c =
     ap length (c .before .loop .inv .1) ∙ puts-length _ _ _
 
--- src/lib.rt:61:1
 returns : tie.Need-returns Inv-loop μ-loop
 returns c =
     let l = c .before .loop in

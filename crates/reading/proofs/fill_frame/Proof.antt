@@ -23,37 +23,30 @@ abbrev μ-loop : tie.MeasureT-loop
 μ-loop s n frame₀ i₀ frame i =
     n - i
 
--- src/lib.rt:55:5
 loop-holds : tie.Need-loop-holds Inv-loop μ-loop
 loop-holds c =
     (omega arith, puts-none _ _ _)
 
--- src/lib.rt:56:9
 fill-column-requires : tie.Need-fill-column-requires Inv-loop μ-loop
 fill-column-requires c κs =
     let l = c .before .before .loop in
     omega (arith, ap length (l .inv .1), puts-length 0 (each (l .i) (columnValues (columnOn (c .before .before .before .before .before .args .s .now)))) (c .before .before .before .before .before .args .frame .now))
 
--- src/lib.rt:57:9
 add-i : tie.Need-add-i Inv-loop μ-loop
 add-i c = search needs
 
--- src/lib.rt:55:5
 loop-less : tie.Need-loop-less Inv-loop μ-loop
 loop-less c = search needs
 
--- src/lib.rt:55:5
 loop-again : tie.Need-loop-again Inv-loop μ-loop
 loop-again c =
     let l = c .before .before .before .before .before .loop in
     (omega arith, c .before .before .fill-column .ensures ∙ puts-next _ 3 (column-length _) (l .i) _ (l .inv .1))
 
--- src/lib.rt:50:1
 same-length : tie.Need-same-length Inv-loop μ-loop
 same-length c =
     ap length (c .before .loop .inv .1) ∙ puts-length _ _ _
 
--- src/lib.rt:50:1
 returns : tie.Need-returns Inv-loop μ-loop
 returns c =
     let l = c .before .loop in

@@ -24,39 +24,32 @@ abbrev μ-loop : tie.MeasureT-loop
 μ-loop s n m marks₀ j₀ marks j =
     m - j
 
--- src/lib.rt:99:5
 loop-holds : tie.Need-loop-holds Inv-loop μ-loop
 loop-holds c =
     (omega arith, puts-none _ _ _)
 
--- src/lib.rt:100:9
 fill-step-requires : tie.Need-fill-step-requires Inv-loop μ-loop
 fill-step-requires c κs =
     let l = c .before .before .loop in
     let a = c .before .before .before .before .before .args in
     omega (arith, ap length (l .inv .1), puts-length 0 (each (l .j) (stepValues (marksOn (a .s .now) (a .n)) (a .n))) (a .marks .now), suc-mul (l .j) (a .n * 2), mul-le-mul {n₁ = suc (l .j)} {m₁ = a .n * 2} {n₂ = a .m} {m₂ = a .n * 2} (omega arith) (le-refl (a .n * 2)))
 
--- src/lib.rt:101:9
 add-j : tie.Need-add-j Inv-loop μ-loop
 add-j c = search needs
 
--- src/lib.rt:99:5
 loop-less : tie.Need-loop-less Inv-loop μ-loop
 loop-less c = search needs
 
--- src/lib.rt:99:5
 loop-again : tie.Need-loop-again Inv-loop μ-loop
 loop-again c =
     let l = c .before .before .before .before .before .loop in
     let a = c .before .before .before .before .before .before .before .before .args in
     (omega arith, c .before .before .fill-step .ensures ∙ puts-next (stepValues (marksOn (a .s .now) (a .n)) (a .n)) (a .n * 2) (row-length (marksOn (a .s .now) (a .n)) (a .n)) (l .j) (a .marks .now) (l .inv .1))
 
--- src/lib.rt:94:1
 same-length : tie.Need-same-length Inv-loop μ-loop
 same-length c =
     ap length (c .before .loop .inv .1) ∙ puts-length _ _ _
 
--- src/lib.rt:94:1
 returns : tie.Need-returns Inv-loop μ-loop
 returns c =
     let l = c .before .loop in

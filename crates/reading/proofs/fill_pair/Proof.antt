@@ -17,80 +17,62 @@ use Rattle.reading.proofs.fill_pair.Lts as lts
 use Rattle.fields.proofs.field.field.Reads as field-reads
 use Rattle.sheets.proofs.model_bits.Reads as model-bits-reads
 
--- src/lib.rt:77:16
 model-bits-requires : tie.Need-model-bits-requires
 model-bits-requires c κs = search needs
 
--- src/lib.rt:77:16
 add-need : tie.Need-add-need
 add-need c = search needs
 
--- src/lib.rt:77:40
 mul-need : tie.Need-mul-need
 mul-need c = search needs
 
--- src/lib.rt:77:16
 add-need-2 : tie.Need-add-need-2
 add-need-2 c = search needs
 
--- src/lib.rt:78:18
 add-effect : tie.Need-add-effect
 add-effect c = search needs
 
--- src/lib.rt:79:22
 mul-place : tie.Need-mul-place
 mul-place c = search needs
 
--- src/lib.rt:79:17
 mul-place-2 : tie.Need-mul-place-2
 mul-place-2 c = search needs
 
--- src/lib.rt:79:31
 mul-place-3 : tie.Need-mul-place-3
 mul-place-3 c = search needs
 
--- src/lib.rt:79:17
 add-place : tie.Need-add-place
 add-place c = search needs
 
--- src/lib.rt:80:20
 field-requires : tie.Need-field-requires
 field-requires c κs = search needs
 
--- src/lib.rt:80:20
 cast-marks : tie.Need-cast-marks
 cast-marks c =
     let h : c .field .result < 64 = subst (λ (x : ℕ). x < 64) (sym (c .field .ensures)) (field-lt _ _ 6) in
     omega (arith, h)
 
--- src/lib.rt:80:5
 slice-write-marks : tie.Need-slice-write-marks
 slice-write-marks c = search needs
 
--- src/lib.rt:81:24
 field-requires-2 : tie.Need-field-requires-2
 field-requires-2 c κs = search needs
 
--- src/lib.rt:81:24
 cast-marks-2 : tie.Need-cast-marks-2
 cast-marks-2 c =
     let h : c .field2 .result < 64 = subst (λ (x : ℕ). x < 64) (sym (c .field2 .ensures)) (field-lt _ _ 6) in
     omega (arith, h)
 
--- src/lib.rt:81:11
 add-marks : tie.Need-add-marks
 add-marks c = search needs
 
--- src/lib.rt:81:5
 slice-write-marks-2 : tie.Need-slice-write-marks-2
 slice-write-marks-2 c =
     simp length-set (omega arith)
 
--- src/lib.rt:73:1
 same-length : tie.Need-same-length
 same-length c = search needs
 
--- src/lib.rt:73:1
 returns : tie.Need-returns
 unfolding puts markValues marksOn
 returns c =

@@ -23,39 +23,32 @@ abbrev μ-loop : tie.MeasureT-loop
 μ-loop s n j marks₀ i₀ marks i =
     n - i
 
--- src/lib.rt:88:5
 loop-holds : tie.Need-loop-holds Inv-loop μ-loop
 loop-holds c =
     (omega arith, puts-none _ _ _)
 
--- src/lib.rt:89:9
 fill-pair-requires : tie.Need-fill-pair-requires Inv-loop μ-loop
 fill-pair-requires c κs =
     let l = c .before .before .loop in
     let a = c .before .before .before .before .before .args in
     omega (arith, ap length (l .inv .1), puts-length (a .j * (a .n * 2)) (each (l .i) (markValues (marksOn (a .s .now) (a .n)) (a .j))) (a .marks .now))
 
--- src/lib.rt:90:9
 add-i : tie.Need-add-i Inv-loop μ-loop
 add-i c = search needs
 
--- src/lib.rt:88:5
 loop-less : tie.Need-loop-less Inv-loop μ-loop
 loop-less c = search needs
 
--- src/lib.rt:88:5
 loop-again : tie.Need-loop-again Inv-loop μ-loop
 loop-again c =
     let l = c .before .before .before .before .before .loop in
     let a = c .before .before .before .before .before .before .before .before .args in
     (omega arith, c .before .before .fill-pair .ensures ∙ puts-more (markValues (marksOn (a .s .now) (a .n)) (a .j)) 2 (pair-length (marksOn (a .s .now) (a .n)) (a .j)) (a .j * (a .n * 2)) (l .i) (a .marks .now) (l .inv .1))
 
--- src/lib.rt:83:1
 same-length : tie.Need-same-length Inv-loop μ-loop
 same-length c =
     ap length (c .before .loop .inv .1) ∙ puts-length _ _ _
 
--- src/lib.rt:83:1
 returns : tie.Need-returns Inv-loop μ-loop
 unfolding stepValues
 returns c =

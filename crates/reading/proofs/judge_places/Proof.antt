@@ -9,36 +9,29 @@ use Rattle.reading.proofs.judge_places.Tie as tie
 use Rattle.reading.proofs.judge_places.Reads as reads
 use Rattle.reading.proofs.judge_places.Lts as lts
 
--- src/lib.rt:27:16
 mul-if1 : tie.Need-mul-if1
 mul-if1 c = search needs
 
--- src/lib.rt:28:9
 returns : tie.Need-returns
 returns c =
     applies 8 _ _ (lt-ltb _ _ (c .if1 .taken)) (omega arith)
 
--- src/lib.rt:31:9
 returns-2 : tie.Need-returns-2
 returns-2 c =
     passes 8 _ _ (le-ltb _ _ (c .before .if1 .left)) (applies 8 _ _ (lt-ltb _ _ (c .if2 .taken)) (omega arith))
 
--- src/lib.rt:33:21
 mul-if3 : tie.Need-mul-if3
 mul-if3 c = search needs
 
--- src/lib.rt:33:16
 mul-if3-2 : tie.Need-mul-if3-2
 mul-if3-2 c =
     let a = c .before .before .args in
     omega (arith, mul-le-mul {n₁ = a .m} {m₁ = a .n * 2} {n₂ = 128} {m₂ = 32} (omega arith) (omega arith))
 
--- src/lib.rt:34:9
 returns-3 : tie.Need-returns-3
 returns-3 c =
     passes 8 _ _ (le-ltb _ _ (c .before .before .if1 .left)) (passes 8 _ _ (le-ltb _ _ (c .before .if2 .left)) (applies 8 _ _ (lt-ltb _ _ (c .if3 .taken)) (omega arith)))
 
--- src/lib.rt:23:1
 returns-4 : tie.Need-returns-4
 returns-4 c =
     passes 8 _ _ (le-ltb _ _ (c .before .before .if1 .left)) (passes 8 _ _ (le-ltb _ _ (c .before .if2 .left)) (passes 8 _ _ (le-ltb _ _ (c .if3 .left)) no-checks))

@@ -14,46 +14,37 @@ use Rattle.reading.proofs.fill_marks.Reads as fill-marks-reads
 use Rattle.reading.proofs.judge_places.Reads as judge-places-reads
 use Rattle.sheets.proofs.judge_sheet.Reads as judge-sheet-reads
 
--- src/lib.rt:110:9
 judge-sheet-requires : tie.Need-judge-sheet-requires
 judge-sheet-requires c κs = search needs
 
--- src/lib.rt:112:9
 returns : tie.Need-returns
 returns c =
     let a = c .before .before .before .before .before .before .args in
     sheet-refused (a .sheet .now) (a .frame .now) (a .costs .now) (a .marks .now) (c .before .judge-sheet .ensures) (c .if1 .taken)
 
--- src/lib.rt:114:13
 field-requires : tie.Need-field-requires
 field-requires c κs = search needs
 
--- src/lib.rt:114:13
 cast-n : tie.Need-cast-n
 cast-n c = search needs
 
--- src/lib.rt:115:13
 field-requires-2 : tie.Need-field-requires-2
 field-requires-2 c κs = search needs
 
--- src/lib.rt:115:13
 cast-m : tie.Need-cast-m
 cast-m c = search needs
 
--- src/lib.rt:116:9
 judge-places-requires : tie.Need-judge-places-requires
 judge-places-requires c κs =
     let a = c .before .before .before .before .before .before .before .before .args in
     let h = part-fine (a .sheet .now) (sheet-fine (a .sheet .now) (sym (c .before .before .before .judge-sheet .ensures) ∙ c .before .before .if1 .left) .0) in
     omega (arith, h .columns, h .steps)
 
--- src/lib.rt:118:9
 returns-2 : tie.Need-returns-2
 returns-2 c =
     let a = c .before .before .before .before .before .before .before .before .before .before .args in
     places-refused (a .sheet .now) (a .frame .now) (a .costs .now) (a .marks .now) (sym (c .before .before .before .before .before .judge-sheet .ensures) ∙ c .before .before .before .before .if1 .left) (c .before .before .before .field .ensures) (c .before .before .field2 .ensures) (c .before .judge-places .ensures) (c .if2 .taken)
 
--- src/lib.rt:120:5
 fill-frame-requires : tie.Need-fill-frame-requires
 fill-frame-requires c κs =
     let a = c .before .before .before .before .before .before .before .before .before .before .before .args in
@@ -61,7 +52,6 @@ fill-frame-requires c κs =
     let e = enough (a .sheet .now) (a .frame .now) (a .costs .now) (a .marks .now) (sym (c .before .before .before .before .before .before .judge-sheet .ensures) ∙ c .before .before .before .before .before .if1 .left) (c .before .before .before .before .field .ensures) (c .before .before .before .field2 .ensures) (c .before .before .judge-places .ensures) (c .before .if2 .left) in
     omega (arith, h .columns, h .steps, e .0, e .1, e .2)
 
--- src/lib.rt:121:5
 fill-costs-requires : tie.Need-fill-costs-requires
 fill-costs-requires c κs =
     let a = c .before .before .before .before .before .before .before .before .before .before .before .before .before .before .before .args in
@@ -69,7 +59,6 @@ fill-costs-requires c κs =
     let e = enough (a .sheet .now) (a .frame .now) (a .costs .now) (a .marks .now) (sym (c .before .before .before .before .before .before .before .before .before .before .judge-sheet .ensures) ∙ c .before .before .before .before .before .before .before .before .before .if1 .left) (c .before .before .before .before .before .before .before .before .field .ensures) (c .before .before .before .before .before .before .before .field2 .ensures) (c .before .before .before .before .before .before .judge-places .ensures) (c .before .before .before .before .before .if2 .left) in
     omega (arith, h .columns, h .steps, e .0, e .1, e .2)
 
--- src/lib.rt:122:5
 fill-marks-requires : tie.Need-fill-marks-requires
 fill-marks-requires c κs =
     let a = c .before .before .before .before .before .before .before .before .before .before .before .before .before .before .before .before .before .before .before .args in
@@ -77,19 +66,15 @@ fill-marks-requires c κs =
     let e = enough (a .sheet .now) (a .frame .now) (a .costs .now) (a .marks .now) (sym (c .before .before .before .before .before .before .before .before .before .before .before .before .before .before .judge-sheet .ensures) ∙ c .before .before .before .before .before .before .before .before .before .before .before .before .before .if1 .left) (c .before .before .before .before .before .before .before .before .before .before .before .before .field .ensures) (c .before .before .before .before .before .before .before .before .before .before .before .field2 .ensures) (c .before .before .before .before .before .before .before .before .before .before .judge-places .ensures) (c .before .before .before .before .before .before .before .before .before .if2 .left) in
     omega (arith, h .columns, h .steps, e .0, e .1, e .2)
 
--- src/lib.rt:107:1
 same-length : tie.Need-same-length
 same-length c = search needs
 
--- src/lib.rt:107:1
 same-length-2 : tie.Need-same-length-2
 same-length-2 c = search needs
 
--- src/lib.rt:107:1
 same-length-3 : tie.Need-same-length-3
 same-length-3 c = search needs
 
--- src/lib.rt:107:1
 returns-3 : tie.Need-returns-3
 returns-3 c =
     let a = c .before .before .before .before .before .before .before .before .before .before .before .before .before .before .before .before .before .before .before .before .before .before .args in

@@ -9,61 +9,48 @@ use Rattle.fields.proofs.field.field.Reads as field-reads
 use Rattle.fields.proofs.field.judge_below.Reads as judge-below-reads
 use Rattle.fields.proofs.field.judge_field.Reads as judge-field-reads
 
--- src/lib.rt:38:19
 mul-at : tie.Need-mul-at
 mul-at c = search needs
 
--- src/lib.rt:38:14
 add-at : tie.Need-add-at
 add-at c = search needs
 
--- src/lib.rt:39:38
 cast-judge-field : tie.Need-cast-judge-field
 cast-judge-field c = search needs
 
--- src/lib.rt:39:9
 judge-field-requires : tie.Need-judge-field-requires
 judge-field-requires c κs = search needs
 
--- src/lib.rt:41:9
 returns : tie.Need-returns
 unfolding columnOn
 returns c =
     let a = c .before .before .before .args in
     size-bad (columnOn (a .s .now)) (a .i) (c .before .judge-field .ensures) (c .if1 .taken)
 
--- src/lib.rt:43:9
 field-requires : tie.Need-field-requires
 field-requires c κs = search needs
 
--- src/lib.rt:44:28
 add-judge-below : tie.Need-add-judge-below
 add-judge-below c = search needs
 
--- src/lib.rt:44:9
 judge-below-requires : tie.Need-judge-below-requires
 judge-below-requires c κs = search needs
 
--- src/lib.rt:46:9
 returns-2 : tie.Need-returns-2
 unfolding columnOn
 returns-2 c =
     let a = c .before .before .before .before .before .before .args in
     start-bad (columnOn (a .s .now)) (a .i) (c .before .before .before .before .judge-field .ensures) (c .before .before .before .if1 .left) (c .before .before .field .ensures) (c .before .judge-below .ensures) (c .if2 .taken)
 
--- src/lib.rt:48:20
 add-judge-field : tie.Need-add-judge-field
 add-judge-field c = search needs
 
--- src/lib.rt:48:20
 add-judge-field-2 : tie.Need-add-judge-field-2
 add-judge-field-2 c = search needs
 
--- src/lib.rt:48:5
 judge-field-requires-2 : tie.Need-judge-field-requires-2
 judge-field-requires-2 c κs = search needs
 
--- src/lib.rt:34:1
 returns-3 : tie.Need-returns-3
 unfolding columnOn
 returns-3 c =

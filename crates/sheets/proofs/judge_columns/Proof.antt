@@ -19,38 +19,31 @@ abbrev μ-loop : tie.MeasureT-loop
 μ-loop s n i₀ i =
     n - i
 
--- src/lib.rt:56:5
 loop-holds : tie.Need-loop-holds Inv-loop μ-loop
 loop-holds c =
     (omega arith, none _)
 
--- src/lib.rt:57:13
 judge-column-requires : tie.Need-judge-column-requires Inv-loop μ-loop
 judge-column-requires c κs = search needs
 
--- src/lib.rt:59:13
 returns : tie.Need-returns Inv-loop μ-loop
 returns c =
     let a = c .before .before .before .before .before .args in
     let l = c .before .before .before .loop in
     hit (l .i) (a .n) (columnPart (columnOn (a .s .now))) (omega arith) (l .inv .1) (c .before .judge-column .ensures) (c .if1 .taken)
 
--- src/lib.rt:61:9
 add-i : tie.Need-add-i Inv-loop μ-loop
 add-i c = search needs
 
--- src/lib.rt:56:5
 loop-less : tie.Need-loop-less Inv-loop μ-loop
 loop-less c = search needs
 
--- src/lib.rt:56:5
 loop-again : tie.Need-loop-again Inv-loop μ-loop
 loop-again c =
     let a = c .before .before .before .before .before .args in
     let l = c .before .before .before .loop in
     (omega arith, pass (l .i) (columnPart (columnOn (a .s .now))) (l .inv .1) (c .before .judge-column .ensures) (c .if1 .left))
 
--- src/lib.rt:51:1
 returns-2 : tie.Need-returns-2 Inv-loop μ-loop
 returns-2 c =
     let a = c .before .before .before .args in

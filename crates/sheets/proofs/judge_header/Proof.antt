@@ -6,37 +6,29 @@ use Rattle.sheets.proofs.judge_header.Reads as reads
 use Rattle.sheets.proofs.judge_header.Lts as lts
 use Rattle.fields.proofs.field.judge_field.Reads as judge-field-reads
 
--- src/lib.rt:23:9
 judge-field-requires : tie.Need-judge-field-requires
 judge-field-requires c κs = search needs
 
--- src/lib.rt:25:9
 returns : tie.Need-returns
 returns c =
     form-bad _ _ _ (c .before .judge-field .ensures) (c .if1 .taken)
 
--- src/lib.rt:27:37
 cast-judge-field : tie.Need-cast-judge-field
 cast-judge-field c = search needs
 
--- src/lib.rt:27:9
 judge-field-requires-2 : tie.Need-judge-field-requires-2
 judge-field-requires-2 c κs = search needs
 
--- src/lib.rt:29:9
 returns-2 : tie.Need-returns-2
 returns-2 c =
     columns-bad _ _ _ (c .before .before .before .judge-field .ensures) (c .before .before .if1 .left) (c .before .judge-field2 .ensures) (c .if2 .taken)
 
--- src/lib.rt:31:29
 cast-judge-field-2 : tie.Need-cast-judge-field-2
 cast-judge-field-2 c = search needs
 
--- src/lib.rt:31:5
 judge-field-requires-3 : tie.Need-judge-field-requires-3
 judge-field-requires-3 c κs = search needs
 
--- src/lib.rt:20:1
 returns-3 : tie.Need-returns-3
 returns-3 c =
     steps-last _ _ _ (c .before .before .before .before .judge-field .ensures) (c .before .before .before .if1 .left) (c .before .before .judge-field2 .ensures) (c .before .if2 .left) (c .judge-field3 .ensures)

@@ -11,39 +11,30 @@ use Rattle.fields.proofs.field.field.Reads as field-reads
 use Rattle.fields.proofs.field.judge_field.Reads as judge-field-reads
 use Rattle.sheets.proofs.model_bits.Reads as model-bits-reads
 
--- src/lib.rt:70:30
 mul-field : tie.Need-mul-field
 mul-field c = search needs
 
--- src/lib.rt:70:25
 add-field : tie.Need-add-field
 add-field c = search needs
 
--- src/lib.rt:70:9
 field-requires : tie.Need-field-requires
 field-requires c κs = search needs
 
--- src/lib.rt:71:14
 model-bits-requires : tie.Need-model-bits-requires
 model-bits-requires c κs = search needs
 
--- src/lib.rt:71:14
 add-at : tie.Need-add-at
 add-at c = search needs
 
--- src/lib.rt:71:38
 mul-at : tie.Need-mul-at
 mul-at c = search needs
 
--- src/lib.rt:71:14
 add-at-2 : tie.Need-add-at-2
 add-at-2 c = search needs
 
--- src/lib.rt:72:9
 judge-field-requires : tie.Need-judge-field-requires
 judge-field-requires c κs = search needs
 
--- src/lib.rt:74:9
 returns : tie.Need-returns
 unfolding columnOn marksOn
 returns c =
@@ -52,15 +43,12 @@ returns c =
     let at : ℕ → ℕ = λ x. x + 16 + a .i * 12 in
     need-bad (columnOn (a .s .now)) (a .i) (marksOn (a .s .now) (a .n)) (a .j) (c .before .before .before .field .ensures) (field-at (a .s .now) 6 0 size 5 (ap at (c .before .before .model-bits .ensures .0)) (c .before .judge-field .ensures)) (c .if1 .taken)
 
--- src/lib.rt:76:20
 add-judge-field : tie.Need-add-judge-field
 add-judge-field c = search needs
 
--- src/lib.rt:76:5
 judge-field-requires-2 : tie.Need-judge-field-requires-2
 judge-field-requires-2 c κs = search needs
 
--- src/lib.rt:66:1
 returns-2 : tie.Need-returns-2
 unfolding columnOn marksOn
 returns-2 c =

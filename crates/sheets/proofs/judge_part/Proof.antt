@@ -15,40 +15,32 @@ use Rattle.sheets.proofs.judge_header.Reads as judge-header-reads
 use Rattle.sheets.proofs.judge_steps.Reads as judge-steps-reads
 use Rattle.sheets.proofs.model_bits.Reads as model-bits-reads
 
--- src/lib.rt:117:9
 judge-header-requires : tie.Need-judge-header-requires
 judge-header-requires c κs = search needs
 
--- src/lib.rt:119:9
 returns : tie.Need-returns
 unfolding sheetWith
 returns c =
     let s = c .before .before .before .args .s .now in
     part-done s refl refl (part-header (sheetWith s (columnsOf s) (stepsOf s)) (columnsOf s) (stepsOf s) (c .before .judge-header .ensures) (c .if1 .taken))
 
--- src/lib.rt:121:13
 field-requires : tie.Need-field-requires
 field-requires c κs = search needs
 
--- src/lib.rt:121:13
 cast-n : tie.Need-cast-n
 cast-n c = search needs
 
--- src/lib.rt:122:13
 field-requires-2 : tie.Need-field-requires-2
 field-requires-2 c κs = search needs
 
--- src/lib.rt:122:13
 cast-m : tie.Need-cast-m
 cast-m c = search needs
 
--- src/lib.rt:123:9
 judge-columns-requires : tie.Need-judge-columns-requires
 judge-columns-requires c κs =
     let h = header-fine (onSheet (c .before .before .before .before .before .args .s .now) 0 4) (onSheet (c .before .before .before .before .before .args .s .now) 4 5) (onSheet (c .before .before .before .before .before .args .s .now) 9 8) (sym (c .before .before .before .judge-header .ensures) ∙ c .before .before .if1 .left) in
     omega (arith, h .columns, h .steps)
 
--- src/lib.rt:125:9
 returns-2 : tie.Need-returns-2
 unfolding sheetWith
 returns-2 c =
@@ -58,13 +50,11 @@ returns-2 c =
     part-done s (c .before .before .before .field .ensures) (c .before .before .field2 .ensures)
     (part-columns (sheetWith s n m) n m (c .before .before .before .before .before .judge-header .ensures) (c .before .before .before .before .if1 .left) (c .before .judge-columns .ensures) (c .if2 .taken))
 
--- src/lib.rt:127:9
 judge-steps-requires : tie.Need-judge-steps-requires
 judge-steps-requires c κs =
     let h = header-fine (onSheet (c .before .before .before .before .before .before .before .args .s .now) 0 4) (onSheet (c .before .before .before .before .before .before .before .args .s .now) 4 5) (onSheet (c .before .before .before .before .before .before .before .args .s .now) 9 8) (sym (c .before .before .before .before .before .judge-header .ensures) ∙ c .before .before .before .before .if1 .left) in
     omega (arith, h .columns, h .steps)
 
--- src/lib.rt:129:9
 returns-3 : tie.Need-returns-3
 unfolding sheetWith
 returns-3 c =
@@ -74,21 +64,17 @@ returns-3 c =
     part-done s (c .before .before .before .before .before .field .ensures) (c .before .before .before .before .field2 .ensures)
     (part-steps (sheetWith s n m) n m (c .before .before .before .before .before .before .before .judge-header .ensures) (c .before .before .before .before .before .before .if1 .left) (c .before .before .before .judge-columns .ensures) (c .before .before .if2 .left) (c .before .judge-steps .ensures) (c .if3 .taken))
 
--- src/lib.rt:131:9
 model-bits-requires : tie.Need-model-bits-requires
 model-bits-requires c κs =
     let h = header-fine (onSheet (c .before .before .before .before .before .before .before .before .before .args .s .now) 0 4) (onSheet (c .before .before .before .before .before .before .before .before .before .args .s .now) 4 5) (onSheet (c .before .before .before .before .before .before .before .before .before .args .s .now) 9 8) (sym (c .before .before .before .before .before .before .before .judge-header .ensures) ∙ c .before .before .before .before .before .before .if1 .left) in
     omega (arith, h .columns, h .steps)
 
--- src/lib.rt:132:27
 sub-judge-field : tie.Need-sub-judge-field
 sub-judge-field c = search needs
 
--- src/lib.rt:132:5
 judge-field-requires : tie.Need-judge-field-requires
 judge-field-requires c κs = search needs
 
--- src/lib.rt:114:1
 returns-4 : tie.Need-returns-4
 unfolding sheetWith
 returns-4 c =

@@ -12,42 +12,33 @@ use Rattle.fields.proofs.field.field.Reads as field-reads
 use Rattle.sheets.proofs.judge_part.Reads as judge-part-reads
 use Rattle.sheets.proofs.model_bits.Reads as model-bits-reads
 
--- src/lib.rt:139:9
 judge-part-requires : tie.Need-judge-part-requires
 judge-part-requires c κs = search needs
 
--- src/lib.rt:141:9
 returns : tie.Need-returns
 returns c =
     sheet-stopped (c .before .before .before .args .s .now) (c .before .judge-part .ensures) (c .if1 .taken)
 
--- src/lib.rt:143:13
 field-requires : tie.Need-field-requires
 field-requires c κs = search needs
 
--- src/lib.rt:143:13
 cast-n : tie.Need-cast-n
 cast-n c = search needs
 
--- src/lib.rt:144:13
 field-requires-2 : tie.Need-field-requires-2
 field-requires-2 c κs = search needs
 
--- src/lib.rt:144:13
 cast-m : tie.Need-cast-m
 cast-m c = search needs
 
--- src/lib.rt:145:9
 model-bits-requires : tie.Need-model-bits-requires
 model-bits-requires c κs =
     let h = part-fine (c .before .before .before .before .before .args .s .now) (sym (c .before .before .before .judge-part .ensures) ∙ c .before .before .if1 .left) in
     omega (arith, h .columns, h .steps)
 
--- src/lib.rt:145:9
 add-if2 : tie.Need-add-if2
 add-if2 c = search needs
 
--- src/lib.rt:146:9
 returns-2 : tie.Need-returns-2
 unfolding bytesFor
 returns-2 c =
@@ -55,7 +46,6 @@ returns-2 c =
     let e : c .before .model-bits .result ≡ modelBits (columnsOf s) (stepsOf s) = c .before .model-bits .ensures .0 ∙ ap₂ modelBits (c .before .before .before .field .ensures) (c .before .before .field2 .ensures) in
     sheet-follows s (c .before .before .before .before .before .judge-part .ensures) (c .before .before .before .before .if1 .left) (omega arith)
 
--- src/lib.rt:136:1
 returns-3 : tie.Need-returns-3
 unfolding bytesFor
 returns-3 c =

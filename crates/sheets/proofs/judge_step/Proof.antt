@@ -22,31 +22,25 @@ abbrev μ-loop : tie.MeasureT-loop
 μ-loop s n j a i₀ i =
     n - i
 
--- src/lib.rt:83:27
 model-bits-requires : tie.Need-model-bits-requires Inv-loop μ-loop
 model-bits-requires c κs = search needs
 
--- src/lib.rt:83:9
 judge-free-requires : tie.Need-judge-free-requires Inv-loop μ-loop
 judge-free-requires c κs = search needs
 
--- src/lib.rt:85:9
 returns : tie.Need-returns Inv-loop μ-loop
 unfolding costOn
 returns c =
     let a = c .before .before .before .before .args in
     cost-cut (columnOn (a .s .now)) (costOn (a .s .now) (a .n)) (marksOn (a .s .now) (a .n)) (a .n) (a .j) (free-at (a .s .now) 16 (c .before .before .model-bits .ensures .0) (c .before .judge-free .ensures)) (c .if1 .taken)
 
--- src/lib.rt:88:5
 loop-holds : tie.Need-loop-holds Inv-loop μ-loop
 loop-holds c =
     (omega arith, none _)
 
--- src/lib.rt:89:13
 judge-marks-requires : tie.Need-judge-marks-requires Inv-loop μ-loop
 judge-marks-requires c κs = search needs
 
--- src/lib.rt:91:13
 returns-2 : tie.Need-returns-2 Inv-loop μ-loop
 unfolding costOn
 returns-2 c =
@@ -55,22 +49,18 @@ returns-2 c =
     marks-last (columnOn (a .s .now)) (costOn (a .s .now) (a .n)) (marksOn (a .s .now) (a .n)) (a .n) (a .j) (free-at (a .s .now) 16 (c .before .before .before .before .before .before .model-bits .ensures .0) (c .before .before .before .before .before .judge-free .ensures)) (c .before .before .before .before .if1 .left)
     (hit (l .i) (a .n) (marksPart (columnOn (a .s .now)) (marksOn (a .s .now) (a .n)) (a .j)) (omega arith) (l .inv .1) (c .before .judge-marks .ensures) (c .if2 .taken))
 
--- src/lib.rt:93:9
 add-i : tie.Need-add-i Inv-loop μ-loop
 add-i c = search needs
 
--- src/lib.rt:88:5
 loop-less : tie.Need-loop-less Inv-loop μ-loop
 loop-less c = search needs
 
--- src/lib.rt:88:5
 loop-again : tie.Need-loop-again Inv-loop μ-loop
 loop-again c =
     let a = c .before .before .before .before .before .before .before .before .args in
     let l = c .before .before .before .loop in
     (omega arith, pass (l .i) (marksPart (columnOn (a .s .now)) (marksOn (a .s .now) (a .n)) (a .j)) (l .inv .1) (c .before .judge-marks .ensures) (c .if2 .left))
 
--- src/lib.rt:79:1
 returns-3 : tie.Need-returns-3 Inv-loop μ-loop
 unfolding costOn
 returns-3 c =

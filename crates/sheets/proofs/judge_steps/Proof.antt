@@ -19,38 +19,31 @@ abbrev μ-loop : tie.MeasureT-loop
 μ-loop s n m j₀ j =
     m - j
 
--- src/lib.rt:103:5
 loop-holds : tie.Need-loop-holds Inv-loop μ-loop
 loop-holds c =
     (omega arith, none _)
 
--- src/lib.rt:104:13
 judge-step-requires : tie.Need-judge-step-requires Inv-loop μ-loop
 judge-step-requires c κs = search needs
 
--- src/lib.rt:106:13
 returns : tie.Need-returns Inv-loop μ-loop
 returns c =
     let a = c .before .before .before .before .before .args in
     let l = c .before .before .before .loop in
     hit (l .j) (a .m) (stepPart (columnOn (a .s .now)) (costOn (a .s .now) (a .n)) (marksOn (a .s .now) (a .n)) (a .n)) (omega arith) (l .inv .1) (c .before .judge-step .ensures) (c .if1 .taken)
 
--- src/lib.rt:108:9
 add-j : tie.Need-add-j Inv-loop μ-loop
 add-j c = search needs
 
--- src/lib.rt:103:5
 loop-less : tie.Need-loop-less Inv-loop μ-loop
 loop-less c = search needs
 
--- src/lib.rt:103:5
 loop-again : tie.Need-loop-again Inv-loop μ-loop
 loop-again c =
     let a = c .before .before .before .before .before .args in
     let l = c .before .before .before .loop in
     (omega arith, pass (l .j) (stepPart (columnOn (a .s .now)) (costOn (a .s .now) (a .n)) (marksOn (a .s .now) (a .n)) (a .n)) (l .inv .1) (c .before .judge-step .ensures) (c .if1 .left))
 
--- src/lib.rt:98:1
 returns-2 : tie.Need-returns-2 Inv-loop μ-loop
 returns-2 c =
     let a = c .before .before .before .args in

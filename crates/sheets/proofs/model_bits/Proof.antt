@@ -8,35 +8,28 @@ use Rattle.sheets.proofs.model_bits.Tie as tie
 use Rattle.sheets.proofs.model_bits.Reads as reads
 use Rattle.sheets.proofs.model_bits.Lts as lts
 
--- src/lib.rt:17:10
 mul-result : tie.Need-mul-result
 mul-result c = search needs
 
--- src/lib.rt:17:5
 add-result : tie.Need-add-result
 add-result c = search needs
 
--- src/lib.rt:17:39
 mul-result-2 : tie.Need-mul-result-2
 mul-result-2 c = search needs
 
--- src/lib.rt:17:34
 add-result-2 : tie.Need-add-result-2
 add-result-2 c = search needs
 
--- src/lib.rt:17:25
 mul-result-3 : tie.Need-mul-result-3
 unfolding modelBits
 mul-result-3 c =
     omega (arith, bits-le (c .args .columns) (c .args .steps) (c .pre .0) (c .pre .1))
 
--- src/lib.rt:17:5
 add-result-3 : tie.Need-add-result-3
 unfolding modelBits
 add-result-3 c =
     omega (arith, bits-le (c .args .columns) (c .args .steps) (c .pre .0) (c .pre .1))
 
--- src/lib.rt:13:1
 returns : tie.Need-returns
 unfolding modelBits
 returns c =

@@ -23,42 +23,33 @@ abbrev μ-loop : tie.MeasureT-loop
 μ-loop s n m t₀ j₀ t j =
     m - j
 
--- src/lib.rt:68:5
 loop-holds : tie.Need-loop-holds Inv-loop μ-loop
 unfolding unused
 loop-holds c =
     (omega arith, begun _ 128 0)
 
--- src/lib.rt:69:25
 model-bits-requires : tie.Need-model-bits-requires Inv-loop μ-loop
 model-bits-requires c κs = search needs
 
--- src/lib.rt:69:16
 field-requires : tie.Need-field-requires Inv-loop μ-loop
 field-requires c κs = search needs
 
--- src/lib.rt:69:16
 cast-t : tie.Need-cast-t Inv-loop μ-loop
 cast-t c =
     omega (arith, field-lt (c .before .before .before .before .before .args .s .now) (c .before .model-bits .result) 16)
 
--- src/lib.rt:69:9
 mul-t : tie.Need-mul-t Inv-loop μ-loop
 mul-t c = search needs
 
--- src/lib.rt:69:9
 array-write-t : tie.Need-array-write-t Inv-loop μ-loop
 array-write-t c = search needs
 
--- src/lib.rt:70:9
 add-j : tie.Need-add-j Inv-loop μ-loop
 add-j c = search needs
 
--- src/lib.rt:68:5
 loop-less : tie.Need-loop-less Inv-loop μ-loop
 loop-less c = search needs
 
--- src/lib.rt:68:5
 loop-again : tie.Need-loop-again Inv-loop μ-loop
 unfolding tenthsOn
 loop-again c =
@@ -66,7 +57,6 @@ loop-again c =
     let l = c .before .before .before .loop in
     (omega arith, grown (tenthsOn (a .s .now) (a .n)) 128 0 (l .j) (omega arith) (l .inv .1) (c .field .ensures ∙ ap (λ (x : ℕ). fieldAt (a .s .now) x 16) (c .before .model-bits .ensures .0)))
 
--- src/lib.rt:62:1
 returns : tie.Need-returns Inv-loop μ-loop
 returns c =
     let l = c .before .loop in

@@ -13,44 +13,35 @@ use Rattle.unpack.proofs.mark_at.Lts as lts
 use Rattle.fields.proofs.field.field.Reads as field-reads
 use Rattle.sheets.proofs.model_bits.Reads as model-bits-reads
 
--- src/lib.rt:83:30
 model-bits-requires : tie.Need-model-bits-requires
 model-bits-requires c κs = search needs
 
--- src/lib.rt:83:30
 add-field : tie.Need-add-field
 add-field c = search needs
 
--- src/lib.rt:83:54
 mul-field : tie.Need-mul-field
 mul-field c = search needs
 
--- src/lib.rt:83:30
 add-field-2 : tie.Need-add-field-2
 add-field-2 c = search needs
 
--- src/lib.rt:83:30
 add-field-3 : tie.Need-add-field-3
 add-field-3 c = search needs
 
--- src/lib.rt:83:21
 field-requires : tie.Need-field-requires
 field-requires c κs = search needs
 
--- src/lib.rt:83:21
 cast-t14 : tie.Need-cast-t14
 cast-t14 c =
     let a = c .before .before .before .before .args in
     omega (arith, field-lt (a .s .now) (c .before .model-bits .result + 16 + a .k % 16 * 12 + a .skip) 6)
 
--- src/lib.rt:83:9
 returns : tie.Need-returns
 unfolding markOn
 returns c =
     let a = c .before .before .before .before .args in
     mark-there (markOn (a .s .now) (a .n) (a .skip)) (a .n) (a .k) (c .before .before .if1 .taken) (c .field .ensures ∙ ap (λ (x : ℕ). fieldAt (a .s .now) (x + 16 + a .k % 16 * 12 + a .skip) 6) (c .before .model-bits .ensures .0))
 
--- src/lib.rt:76:1
 returns-2 : tie.Need-returns-2
 returns-2 c =
     let a = c .before .before .args in

@@ -21,40 +21,32 @@ abbrev μ-loop : tie.MeasureT-loop
 μ-loop s n m skip end t₀ k₀ t k =
     end - k
 
--- src/lib.rt:92:15
 mul-end : tie.Need-mul-end Inv-loop μ-loop
 mul-end c = search needs
 
--- src/lib.rt:95:5
 loop-holds : tie.Need-loop-holds Inv-loop μ-loop
 unfolding unused
 loop-holds c =
     (omega arith, begun _ 2048 (mark 0))
 
--- src/lib.rt:96:16
 mark-at-requires : tie.Need-mark-at-requires Inv-loop μ-loop
 mark-at-requires c κs = search needs
 
--- src/lib.rt:96:9
 array-set-from-t : tie.Need-array-set-from-t Inv-loop μ-loop
 array-set-from-t c = search needs
 
--- src/lib.rt:97:9
 add-k : tie.Need-add-k Inv-loop μ-loop
 add-k c = search needs
 
--- src/lib.rt:95:5
 loop-less : tie.Need-loop-less Inv-loop μ-loop
 loop-less c = search needs
 
--- src/lib.rt:95:5
 loop-again : tie.Need-loop-again Inv-loop μ-loop
 loop-again c =
     let a = c .before .before .before .before .args in
     let l = c .before .before .loop in
     (omega arith, grown (markPlace (markOn (a .s .now) (a .n) (a .skip)) (a .n)) 2048 (mark 0) (l .k) (omega arith) (l .inv .1) (c .mark-at .ensures))
 
--- src/lib.rt:88:1
 returns : tie.Need-returns Inv-loop μ-loop
 unfolding markTable
 returns c =

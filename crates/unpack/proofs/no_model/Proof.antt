@@ -5,7 +5,6 @@ use Rattle.unpack.proofs.no_model.Tie as tie
 use Rattle.unpack.proofs.no_model.Reads as reads
 use Rattle.unpack.proofs.no_model.Lts as lts
 
--- src/lib.rt:102:1
 returns : tie.Need-returns
 unfolding noModel unused
 returns c =

@@ -21,49 +21,39 @@ abbrev μ-loop : tie.MeasureT-loop
 μ-loop s n t₀ i₀ t i =
     n - i
 
--- src/lib.rt:29:5
 loop-holds : tie.Need-loop-holds Inv-loop μ-loop
 unfolding unused
 loop-holds c =
     (omega arith, begun _ 16 0)
 
--- src/lib.rt:30:30
 mul-field : tie.Need-mul-field Inv-loop μ-loop
 mul-field c = search needs
 
--- src/lib.rt:30:25
 add-field : tie.Need-add-field Inv-loop μ-loop
 add-field c = search needs
 
--- src/lib.rt:30:16
 field-requires : tie.Need-field-requires Inv-loop μ-loop
 field-requires c κs = search needs
 
--- src/lib.rt:30:16
 cast-t : tie.Need-cast-t Inv-loop μ-loop
 cast-t c =
     omega (arith, field-lt (c .before .before .before .before .args .s .now) (17 + c .before .before .loop .i * 17) 6)
 
--- src/lib.rt:30:9
 array-write-t : tie.Need-array-write-t Inv-loop μ-loop
 array-write-t c = search needs
 
--- src/lib.rt:31:9
 add-i : tie.Need-add-i Inv-loop μ-loop
 add-i c = search needs
 
--- src/lib.rt:29:5
 loop-less : tie.Need-loop-less Inv-loop μ-loop
 loop-less c = search needs
 
--- src/lib.rt:29:5
 loop-again : tie.Need-loop-again Inv-loop μ-loop
 unfolding sizeOn
 loop-again c =
     let l = c .before .before .loop in
     (omega arith, grown (sizeOn (c .before .before .before .before .args .s .now)) 16 0 (l .i) (omega arith) (l .inv .1) (c .field .ensures))
 
--- src/lib.rt:23:1
 returns : tie.Need-returns Inv-loop μ-loop
 returns c =
     let l = c .before .loop in

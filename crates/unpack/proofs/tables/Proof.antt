@@ -10,31 +10,24 @@ use Rattle.unpack.proofs.marks.Reads as marks-reads
 use Rattle.unpack.proofs.sizes.Reads as sizes-reads
 use Rattle.unpack.proofs.starts.Reads as starts-reads
 
--- src/lib.rt:122:9
 sizes-requires : tie.Need-sizes-requires
 sizes-requires c κs = search needs
 
--- src/lib.rt:123:9
 starts-requires : tie.Need-starts-requires
 starts-requires c κs = search needs
 
--- src/lib.rt:124:9
 goals-requires : tie.Need-goals-requires
 goals-requires c κs = search needs
 
--- src/lib.rt:125:9
 costs-requires : tie.Need-costs-requires
 costs-requires c κs = search needs
 
--- src/lib.rt:126:9
 marks-requires : tie.Need-marks-requires
 marks-requires c κs = search needs
 
--- src/lib.rt:127:9
 marks-requires-2 : tie.Need-marks-requires-2
 marks-requires-2 c κs = search needs
 
--- src/lib.rt:118:1
 returns : tie.Need-returns
 returns c =
     let a = c .before .before .before .before .before .before .before .args in

@@ -12,43 +12,34 @@ use Rattle.sheets.proofs.judge_sheet.Reads as judge-sheet-reads
 use Rattle.unpack.proofs.no_model.Reads as no-model-reads
 use Rattle.unpack.proofs.tables.Reads as tables-reads
 
--- src/lib.rt:144:9
 judge-sheet-requires : tie.Need-judge-sheet-requires
 judge-sheet-requires c κs = search needs
 
--- src/lib.rt:146:13
 no-model-requires : tie.Need-no-model-requires
 no-model-requires c κs = search needs
 
--- src/lib.rt:147:9
 returns : tie.Need-returns
 returns c =
     refuses (c .before .before .before .before .args .sheet .now) (c .before .before .judge-sheet .ensures) (c .before .if1 .taken) (c .no-model .ensures)
 
--- src/lib.rt:149:13
 field-requires : tie.Need-field-requires
 field-requires c κs = search needs
 
--- src/lib.rt:149:13
 cast-n : tie.Need-cast-n
 cast-n c = search needs
 
--- src/lib.rt:150:13
 field-requires-2 : tie.Need-field-requires-2
 field-requires-2 c κs = search needs
 
--- src/lib.rt:150:13
 cast-m : tie.Need-cast-m
 cast-m c = search needs
 
--- src/lib.rt:151:9
 tables-requires : tie.Need-tables-requires
 tables-requires c κs =
     let a = c .before .before .before .before .before .args in
     let h = part-fine (a .sheet .now) (sheet-fine (a .sheet .now) (sym (c .before .before .before .judge-sheet .ensures) ∙ c .before .before .if1 .left) .0) in
     (omega (arith, c .before .field .ensures, h .columns), omega (arith, c .field2 .ensures, h .steps), c .before .field .ensures, c .field2 .ensures)
 
--- src/lib.rt:141:1
 returns-2 : tie.Need-returns-2
 returns-2 c =
     unpacks (c .before .before .before .before .before .before .args .sheet .now) (c .before .before .before .before .judge-sheet .ensures) (c .before .before .before .if1 .left) (c .tables .ensures)

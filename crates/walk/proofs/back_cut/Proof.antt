@@ -6,15 +6,12 @@ use Rattle.walk.proofs.back_cut.Lts as lts
 use Rattle.walk.proofs.cut_for.Reads as cut-for-reads
 use Rattle.walk.proofs.fill_back_wanted.Reads as fill-back-wanted-reads
 
--- src/lib.rt:254:5
 fill-back-wanted-requires : tie.Need-fill-back-wanted-requires
 fill-back-wanted-requires c κs = search needs
 
--- src/lib.rt:255:5
 cut-for-requires : tie.Need-cut-for-requires
 cut-for-requires c κs = search needs
 
--- src/lib.rt:240:1
 returns : tie.Need-returns
 returns c = rw (c .before .before .fill-back-wanted .ensures) at (c .cut-for .ensures)
 

@@ -6,17 +6,14 @@ use Rattle.walk.proofs.back_set.Tie as tie
 use Rattle.walk.proofs.back_set.Reads as reads
 use Rattle.walk.proofs.back_set.Lts as lts
 
--- src/lib.rt:48:9
 returns : tie.Need-returns
 unfolding backSet isEmpty
 returns c = rw (ne-eqb _ _ (c .if1 .taken))
 
--- src/lib.rt:51:9
 returns-2 : tie.Need-returns-2
 unfolding backSet isEmpty
 returns-2 c = rw (eq-eqb _ _ (c .before .if1 .left), ne-eqb _ _ (c .if2 .taken))
 
--- src/lib.rt:44:1
 returns-3 : tie.Need-returns-3
 unfolding backSet isEmpty
 returns-3 c = rw (eq-eqb _ _ (c .before .if1 .left), eq-eqb _ _ (c .if2 .left))

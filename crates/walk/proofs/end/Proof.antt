@@ -8,20 +8,16 @@ use Rattle.walk.proofs.end.Lts as lts
 use Rattle.walk.proofs.cut_for.Reads as cut-for-reads
 use Rattle.walk.proofs.is_goal.Reads as is-goal-reads
 
--- src/lib.rt:300:8
 is-goal-requires : tie.Need-is-goal-requires
 is-goal-requires c κs = search needs
 
--- src/lib.rt:301:9
 returns : tie.Need-returns
 unfolding endBy
 returns c = rw (sym (c .before .is-goal .ensures) ∙ c .if1 .taken)
 
--- src/lib.rt:303:17
 cut-for-requires : tie.Need-cut-for-requires
 cut-for-requires c κs = search needs
 
--- src/lib.rt:289:1
 returns-2 : tie.Need-returns-2
 unfolding endBy
 returns-2 c = rw (sym (c .before .before .is-goal .ensures) ∙ c .before .if1 .left, c .cut-for .ensures)

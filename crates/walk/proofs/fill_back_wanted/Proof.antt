@@ -20,90 +20,69 @@ Inv-loop needs lands sets wanted₀ rs rb j₀ wanted j = (j ≤ 16) × (length 
 abbrev μ-loop : tie.MeasureT-loop
 μ-loop needs lands sets wanted₀ rs rb j₀ wanted j = 16 - j
 
--- src/lib.rt:173:14
 cast-rs : tie.Need-cast-rs Inv-loop μ-loop
 cast-rs c = search needs
 
--- src/lib.rt:173:14
 mul-rs : tie.Need-mul-rs Inv-loop μ-loop
 mul-rs c = search needs
 
--- src/lib.rt:174:14
 cast-rb : tie.Need-cast-rb Inv-loop μ-loop
 cast-rb c = search needs
 
--- src/lib.rt:174:14
 mul-rb : tie.Need-mul-rb Inv-loop μ-loop
 mul-rb c = search needs
 
--- src/lib.rt:176:5
 loop-holds : tie.Need-loop-holds Inv-loop μ-loop
 loop-holds c = (omega arith, search needs, sym (over-none _ _))
 
--- src/lib.rt:177:36
 add-back-set : tie.Need-add-back-set Inv-loop μ-loop
 add-back-set c = search needs
 
--- src/lib.rt:177:30
 mul-back-set : tie.Need-mul-back-set Inv-loop μ-loop
 mul-back-set c = search needs
 
--- src/lib.rt:177:30
 element-copy-out-back-set : tie.Need-element-copy-out-back-set Inv-loop μ-loop
 element-copy-out-back-set c = search needs
 
--- src/lib.rt:177:51
 add-back-set-2 : tie.Need-add-back-set-2 Inv-loop μ-loop
 add-back-set-2 c = search needs
 
--- src/lib.rt:177:45
 mul-back-set-2 : tie.Need-mul-back-set-2 Inv-loop μ-loop
 mul-back-set-2 c = search needs
 
--- src/lib.rt:177:45
 element-copy-out-back-set-2 : tie.Need-element-copy-out-back-set-2 Inv-loop μ-loop
 element-copy-out-back-set-2 c = search needs
 
--- src/lib.rt:177:65
 add-back-set-3 : tie.Need-add-back-set-3 Inv-loop μ-loop
 add-back-set-3 c = search needs
 
--- src/lib.rt:177:60
 mul-back-set-3 : tie.Need-mul-back-set-3 Inv-loop μ-loop
 mul-back-set-3 c = search needs
 
--- src/lib.rt:177:60
 element-copy-out-back-set-3 : tie.Need-element-copy-out-back-set-3 Inv-loop μ-loop
 element-copy-out-back-set-3 c = search needs
 
--- src/lib.rt:177:21
 back-set-requires : tie.Need-back-set-requires Inv-loop μ-loop
 back-set-requires c κs = search needs
 
--- src/lib.rt:177:9
 mul-wanted : tie.Need-mul-wanted Inv-loop μ-loop
 mul-wanted c = search needs
 
--- src/lib.rt:177:9
 element-write-wanted : tie.Need-element-write-wanted Inv-loop μ-loop
 element-write-wanted c = search needs
 
--- src/lib.rt:178:9
 add-j : tie.Need-add-j Inv-loop μ-loop
 add-j c = search needs
 
--- src/lib.rt:176:5
 loop-less : tie.Need-loop-less Inv-loop μ-loop
 loop-less c = search needs
 
--- src/lib.rt:176:5
 loop-again : tie.Need-loop-again Inv-loop μ-loop
 unfolding past
 loop-again c =
     let l = c .before .before .before .before .before .loop in
     (omega arith, simp length-set (l .inv .1), over-set _ (l .j) _ (l .wanted) _ (l .inv .2) (omega arith) (c .back-set .ensures))
 
--- src/lib.rt:162:1
 returns : tie.Need-returns Inv-loop μ-loop
 unfolding backRow backAt past
 returns c =

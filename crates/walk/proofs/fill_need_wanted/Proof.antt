@@ -19,54 +19,42 @@ Inv-loop needs wanted₀ rs j₀ wanted j = (j ≤ 16) × (length wanted ≡ 16)
 abbrev μ-loop : tie.MeasureT-loop
 μ-loop needs wanted₀ rs j₀ wanted j = 16 - j
 
--- src/lib.rt:153:14
 cast-rs : tie.Need-cast-rs Inv-loop μ-loop
 cast-rs c = search needs
 
--- src/lib.rt:153:14
 mul-rs : tie.Need-mul-rs Inv-loop μ-loop
 mul-rs c = search needs
 
--- src/lib.rt:155:5
 loop-holds : tie.Need-loop-holds Inv-loop μ-loop
 loop-holds c = (omega arith, search needs, sym (over-none _ _))
 
--- src/lib.rt:156:27
 add-wanted : tie.Need-add-wanted Inv-loop μ-loop
 add-wanted c = search needs
 
--- src/lib.rt:156:21
 mul-wanted : tie.Need-mul-wanted Inv-loop μ-loop
 mul-wanted c = search needs
 
--- src/lib.rt:156:21
 element-copy-out-wanted : tie.Need-element-copy-out-wanted Inv-loop μ-loop
 element-copy-out-wanted c = search needs
 
--- src/lib.rt:156:9
 mul-wanted-2 : tie.Need-mul-wanted-2 Inv-loop μ-loop
 mul-wanted-2 c = search needs
 
--- src/lib.rt:156:9
 element-write-wanted : tie.Need-element-write-wanted Inv-loop μ-loop
 element-write-wanted c = search needs
 
--- src/lib.rt:157:9
 add-j : tie.Need-add-j Inv-loop μ-loop
 add-j c = search needs
 
--- src/lib.rt:155:5
 loop-less : tie.Need-loop-less Inv-loop μ-loop
 loop-less c = search needs
 
--- src/lib.rt:155:5
 loop-again : tie.Need-loop-again Inv-loop μ-loop
 unfolding past
 loop-again c =
     let l = c .before .before .loop in
     (omega arith, simp length-set (l .inv .1), over-set _ (l .j) _ (l .wanted) _ (l .inv .2) (omega arith) refl)
 
--- src/lib.rt:145:1
 returns : tie.Need-returns Inv-loop μ-loop
 unfolding needRow
 returns c =

@@ -17,43 +17,33 @@ Inv-loop columns steps count needs lands goals costs sets dist here₀ path₀ a
 abbrev μ-loop : tie.MeasureT-loop
 μ-loop columns steps count needs lands goals costs sets dist here₀ path₀ a0 n a₀ i₀ here path a i = n - i
 
--- src/lib.rt:325:14
 cast-a0 : tie.Need-cast-a0 Inv-loop μ-loop
 cast-a0 c = search needs
 
--- src/lib.rt:326:14
 mul-n : tie.Need-mul-n Inv-loop μ-loop
 mul-n c = search needs
 
--- src/lib.rt:326:14
 element-copy-out-n : tie.Need-element-copy-out-n Inv-loop μ-loop
 element-copy-out-n c = search needs
 
--- src/lib.rt:329:5
 loop-holds : tie.Need-loop-holds Inv-loop μ-loop
 loop-holds c = going-none _ _ _ _ _ _ _ _ _ _ _ _ _ (search needs) (search needs) (search needs)
 
--- src/lib.rt:330:13
 hop-requires : tie.Need-hop-requires Inv-loop μ-loop
 hop-requires c κs = search needs
 
--- src/lib.rt:343:24
 enum-known-turn : tie.Need-enum-known-turn Inv-loop μ-loop
 enum-known-turn c = search needs
 
--- src/lib.rt:344:17
 element-write-path : tie.Need-element-write-path Inv-loop μ-loop
 element-write-path c = search needs
 
--- src/lib.rt:348:17
 enum-told : tie.Need-enum-told Inv-loop μ-loop
 enum-told c = search needs
 
--- src/lib.rt:350:26
 enum-known-turn-2 : tie.Need-enum-known-turn-2 Inv-loop μ-loop
 enum-known-turn-2 c = search needs
 
--- src/lib.rt:351:17
 returns : tie.Need-returns Inv-loop μ-loop
 returns c =
     let g = c .before .before .before .before .before .before .before .before .before .before .args in
@@ -65,15 +55,12 @@ returns c =
     (going-flawed (g .columns) (g .steps) (g .count) (g .needs .now) (g .lands .now) (g .goals .now) (g .costs .now) (g .sets .now) (g .dist .now) _ _ (l .i) (l .a) (l .here) (l .path) (l .inv) (h .result) _ (h .ensures .0) (h .ensures .1 .0) (c .before .before .before .before .before .loop-test .taken) (w .0 .0) (w .1))
     (known-flawed (g .columns) (g .steps) (g .count) (g .needs .now) (g .lands .now) (g .goals .now) (g .costs .now) (g .sets .now) (g .dist .now) _ _ (l .i) (l .a) (l .here) (l .path) (l .inv) _) (h .ensures .1 .1) (l .inv .long)
 
--- src/lib.rt:354:9
 add-i : tie.Need-add-i Inv-loop μ-loop
 add-i c = search needs
 
--- src/lib.rt:329:5
 loop-less : tie.Need-loop-less Inv-loop μ-loop
 loop-less c = search needs
 
--- src/lib.rt:329:5
 loop-again : tie.Need-loop-again Inv-loop μ-loop
 loop-again c =
     let g = c .before .before .before .before .before .before .before .before .before .before .args in
@@ -82,11 +69,9 @@ loop-again c =
     let w = c .before .turn .given in
     going-more (g .columns) (g .steps) (g .count) (g .needs .now) (g .lands .now) (g .goals .now) (g .costs .now) (g .sets .now) (g .dist .now) _ _ (l .i) (l .a) (l .here) (l .path) (l .inv) (h .result) _ (h .ensures .0) (h .ensures .1 .0) (c .before .before .before .before .before .loop-test .taken) (w .0 .0) (w .0 .1 .0) (w .1) (h .ensures .1 .1) (search needs)
 
--- src/lib.rt:356:5
 end-requires : tie.Need-end-requires Inv-loop μ-loop
 end-requires c κs = let m = c .before .before .loop .inv .made in search (m, needs)
 
--- src/lib.rt:308:1
 returns-2 : tie.Need-returns-2 Inv-loop μ-loop
 returns-2 c =
     let g = c .before .before .before .before .before .before .before .args in

@@ -16,19 +16,15 @@ use Rattle.walk.proofs.lands_in.Reads as lands-in-reads
 use Rattle.walk.proofs.need_cut.Reads as need-cut-reads
 use Rattle.walk.proofs.take.Reads as take-reads
 
--- src/lib.rt:274:9
 next-hop-requires : tie.Need-next-hop-requires
 next-hop-requires c κs = search needs
 
--- src/lib.rt:275:18
 enum-known-next : tie.Need-enum-known-next
 enum-known-next c = search needs
 
--- src/lib.rt:276:9
 enum-told : tie.Need-enum-told
 enum-told c = search needs
 
--- src/lib.rt:276:9
 returns : tie.Need-returns
 unfolding standsAfter
 returns c =
@@ -36,7 +32,6 @@ returns c =
     let n = c .before .before .next-hop in
     (turn-ended (g .columns) (g .steps) (g .count) (g .needs .now) (g .lands .now) (g .costs .now) (g .sets .now) (g .dist .now) (g .a) (g .here .now) _ (n .ensures .0) (c .enum-told .given .1), (refl, c .before .before .before .before .pre .5))
 
--- src/lib.rt:278:9
 can-take-requires : tie.Need-can-take-requires
 can-take-requires c κs =
     let g = c .before .before .before .before .before .before .args in
@@ -45,7 +40,6 @@ can-take-requires c κs =
     let h = hop-below (g .columns) (g .steps) (g .count) (g .needs .now) (g .lands .now) (g .costs .now) (g .sets .now) (g .dist .now) (g .a) (g .here .now) _ (n .ensures .0) (w .0 .0) (w .0 .1 .0) (w .1) in
     search (h, needs)
 
--- src/lib.rt:279:29
 need-cut-requires : tie.Need-need-cut-requires
 need-cut-requires c κs =
     let g = c .before .before .before .before .before .before .before .before .before .args in
@@ -54,7 +48,6 @@ need-cut-requires c κs =
     let h = hop-below (g .columns) (g .steps) (g .count) (g .needs .now) (g .lands .now) (g .costs .now) (g .sets .now) (g .dist .now) (g .a) (g .here .now) _ (n .ensures .0) (w .0 .0) (w .0 .1 .0) (w .1) in
     search (h, needs)
 
--- src/lib.rt:279:9
 returns-2 : tie.Need-returns-2
 unfolding standsAfter
 returns-2 c =
@@ -64,7 +57,6 @@ returns-2 c =
     let can = sym (c .before .before .before .can-take .ensures) ∙ not-true _ (c .before .before .if1 .taken) in
     (ap {B = Turn} Flawed (c .need-cut .ensures) ∙ turn-need (g .columns) (g .steps) (g .count) (g .needs .now) (g .lands .now) (g .costs .now) (g .sets .now) (g .dist .now) (g .a) (g .here .now) _ (n .ensures .0) (w .0 .0) (w .0 .1 .0) (w .1) can, (refl, c .before .before .before .before .before .before .before .before .before .before .pre .5))
 
--- src/lib.rt:281:9
 lands-in-requires : tie.Need-lands-in-requires
 lands-in-requires c κs =
     let g = c .before .before .before .before .before .before .before .before .before .args in
@@ -73,7 +65,6 @@ lands-in-requires c κs =
     let h = hop-below (g .columns) (g .steps) (g .count) (g .needs .now) (g .lands .now) (g .costs .now) (g .sets .now) (g .dist .now) (g .a) (g .here .now) _ (n .ensures .0) (w .0 .0) (w .0 .1 .0) (w .1) in
     search (h, needs)
 
--- src/lib.rt:282:29
 back-cut-requires : tie.Need-back-cut-requires
 back-cut-requires c κs =
     let g = c .before .before .before .before .before .before .before .before .before .before .before .before .args in
@@ -82,7 +73,6 @@ back-cut-requires c κs =
     let h = hop-below (g .columns) (g .steps) (g .count) (g .needs .now) (g .lands .now) (g .costs .now) (g .sets .now) (g .dist .now) (g .a) (g .here .now) _ (n .ensures .0) (w .0 .0) (w .0 .1 .0) (w .1) in
     search (h, needs)
 
--- src/lib.rt:282:9
 returns-3 : tie.Need-returns-3
 unfolding standsAfter
 returns-3 c =
@@ -93,7 +83,6 @@ returns-3 c =
     let lands = sym (c .before .before .before .lands-in .ensures) ∙ not-true _ (c .before .before .if2 .taken) in
     (ap {B = Turn} Flawed (c .back-cut .ensures) ∙ turn-back (g .columns) (g .steps) (g .count) (g .needs .now) (g .lands .now) (g .costs .now) (g .sets .now) (g .dist .now) (g .a) (g .here .now) _ (n .ensures .0) (w .0 .0) (w .0 .1 .0) (w .1) can lands, (refl, c .before .before .before .before .before .before .before .before .before .before .before .before .before .pre .5))
 
--- src/lib.rt:284:5
 take-requires : tie.Need-take-requires
 take-requires c κs =
     let g = c .before .before .before .before .before .before .before .before .before .before .before .before .args in
@@ -102,7 +91,6 @@ take-requires c κs =
     let h = hop-below (g .columns) (g .steps) (g .count) (g .needs .now) (g .lands .now) (g .costs .now) (g .sets .now) (g .dist .now) (g .a) (g .here .now) _ (n .ensures .0) (w .0 .0) (w .0 .1 .0) (w .1) in
     search (h, needs)
 
--- src/lib.rt:259:1
 returns-4 : tie.Need-returns-4
 unfolding standsAfter
 returns-4 c =

@@ -1,6 +1,5 @@
 use Rattle.walk.specs.Walking.{goalAtEnd}
 use Rattle.blocks.specs.Masks.{lies}
-use Rattle.blocks.specs.Flat.{past}
 use Rattle.task.proofs.LoopLaws.{all-more, all-fails}
 use Rattle.task.specs.Loops.{all}
 use borrow.Author.Tests.{not-true, not-false}
@@ -22,50 +21,38 @@ Inv-loop columns goals here j₀ j = (j ≤ columns) × (all j (λ i. lies (getD
 abbrev μ-loop : tie.MeasureT-loop
 μ-loop columns goals here j₀ j = columns - j
 
--- src/lib.rt:135:5
 loop-holds : tie.Need-loop-holds Inv-loop μ-loop
 unfolding all
 loop-holds c = (omega arith, refl)
 
--- src/lib.rt:136:18
 mul-lies : tie.Need-mul-lies Inv-loop μ-loop
 mul-lies c = search needs
 
--- src/lib.rt:136:18
 element-copy-out-lies : tie.Need-element-copy-out-lies Inv-loop μ-loop
 element-copy-out-lies c = search needs
 
--- src/lib.rt:136:28
 mul-lies-2 : tie.Need-mul-lies-2 Inv-loop μ-loop
 mul-lies-2 c = search needs
 
--- src/lib.rt:136:28
 element-copy-out-lies-2 : tie.Need-element-copy-out-lies-2 Inv-loop μ-loop
 element-copy-out-lies-2 c = search needs
 
--- src/lib.rt:136:13
 lies-requires : tie.Need-lies-requires Inv-loop μ-loop
 lies-requires c κs = search needs
 
--- src/lib.rt:137:13
 returns : tie.Need-returns Inv-loop μ-loop
 unfolding goalAtEnd
 returns c = sym (all-fails _ _ (c .before .before .before .before .before .loop .j) (c .before .before .before .before .loop-test .taken) (sym (c .before .lies .ensures) ∙ not-true _ (c .if1 .taken)))
 
--- src/lib.rt:139:9
 add-j : tie.Need-add-j Inv-loop μ-loop
 add-j c = search needs
 
--- src/lib.rt:135:5
 loop-less : tie.Need-loop-less Inv-loop μ-loop
 loop-less c = search needs
 
--- src/lib.rt:135:5
 loop-again : tie.Need-loop-again Inv-loop μ-loop
-unfolding past
 loop-again c = (omega arith, all-more _ _ (c .before .before .before .before .before .loop .inv .1) (sym (c .before .lies .ensures) ∙ not-false _ (c .if1 .left)))
 
--- src/lib.rt:130:1
 returns-2 : tie.Need-returns-2 Inv-loop μ-loop
 unfolding goalAtEnd
 returns-2 c =

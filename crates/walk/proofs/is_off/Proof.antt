@@ -6,12 +6,10 @@ use Rattle.walk.proofs.is_off.Tie as tie
 use Rattle.walk.proofs.is_off.Reads as reads
 use Rattle.walk.proofs.is_off.Lts as lts
 
--- src/lib.rt:61:9
 returns : tie.Need-returns
 unfolding isOff isEmpty common
 returns c = rw (eq-eqb _ _ (c .if1 .taken))
 
--- src/lib.rt:57:1
 returns-2 : tie.Need-returns-2
 unfolding isOff isEmpty common
 returns-2 c = rw (ne-eqb _ _ (c .if1 .left))

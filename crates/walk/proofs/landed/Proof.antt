@@ -6,12 +6,10 @@ use Rattle.walk.proofs.landed.Tie as tie
 use Rattle.walk.proofs.landed.Reads as reads
 use Rattle.walk.proofs.landed.Lts as lts
 
--- src/lib.rt:38:9
 returns : tie.Need-returns
 unfolding landed isEmpty
 returns c = rw (ne-eqb _ _ (c .if1 .taken))
 
--- src/lib.rt:34:1
 returns-2 : tie.Need-returns-2
 unfolding landed isEmpty
 returns-2 c = rw (eq-eqb _ _ (c .if1 .left))

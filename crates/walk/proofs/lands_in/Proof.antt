@@ -22,82 +22,63 @@ Inv-loop columns lands sets here rs rb j₀ j = (j ≤ columns) × (all j (λ i.
 abbrev μ-loop : tie.MeasureT-loop
 μ-loop columns lands sets here rs rb j₀ j = columns - j
 
--- src/lib.rt:99:14
 cast-rs : tie.Need-cast-rs Inv-loop μ-loop
 cast-rs c = search needs
 
--- src/lib.rt:99:14
 mul-rs : tie.Need-mul-rs Inv-loop μ-loop
 mul-rs c = search needs
 
--- src/lib.rt:100:14
 cast-rb : tie.Need-cast-rb Inv-loop μ-loop
 cast-rb c = search needs
 
--- src/lib.rt:100:14
 mul-rb : tie.Need-mul-rb Inv-loop μ-loop
 mul-rb c = search needs
 
--- src/lib.rt:102:5
 loop-holds : tie.Need-loop-holds Inv-loop μ-loop
 unfolding all
 loop-holds c = (omega arith, refl)
 
--- src/lib.rt:103:25
 add-landed : tie.Need-add-landed Inv-loop μ-loop
 add-landed c = search needs
 
--- src/lib.rt:103:19
 mul-landed : tie.Need-mul-landed Inv-loop μ-loop
 mul-landed c = search needs
 
--- src/lib.rt:103:19
 element-copy-out-landed : tie.Need-element-copy-out-landed Inv-loop μ-loop
 element-copy-out-landed c = search needs
 
--- src/lib.rt:103:34
 mul-landed-2 : tie.Need-mul-landed-2 Inv-loop μ-loop
 mul-landed-2 c = search needs
 
--- src/lib.rt:103:34
 element-copy-out-landed-2 : tie.Need-element-copy-out-landed-2 Inv-loop μ-loop
 element-copy-out-landed-2 c = search needs
 
--- src/lib.rt:103:12
 landed-requires : tie.Need-landed-requires Inv-loop μ-loop
 landed-requires c κs = search needs
 
--- src/lib.rt:103:50
 add-if1 : tie.Need-add-if1 Inv-loop μ-loop
 add-if1 c = search needs
 
--- src/lib.rt:103:45
 mul-if1 : tie.Need-mul-if1 Inv-loop μ-loop
 mul-if1 c = search needs
 
--- src/lib.rt:103:45
 element-copy-out-if1 : tie.Need-element-copy-out-if1 Inv-loop μ-loop
 element-copy-out-if1 c = search needs
 
--- src/lib.rt:104:13
 returns : tie.Need-returns Inv-loop μ-loop
 unfolding landsBy landedAt past
 returns c = sym (all-fails _ _ (c .before .before .before .before .before .before .loop .j) (c .before .before .before .before .before .loop-test .taken) (lands-out _ _ _ _ (c .before .before .landed .ensures) (c .if1 .taken)))
 
--- src/lib.rt:106:9
 add-j : tie.Need-add-j Inv-loop μ-loop
 add-j c = search needs
 
--- src/lib.rt:102:5
 loop-less : tie.Need-loop-less Inv-loop μ-loop
 loop-less c = search needs
 
--- src/lib.rt:102:5
 loop-again : tie.Need-loop-again Inv-loop μ-loop
 unfolding past
 loop-again c = (omega arith, all-more _ _ (c .before .before .before .before .before .before .loop .inv .1) (lands-inside _ _ _ _ (c .before .before .landed .ensures) (c .if1 .left)))
 
--- src/lib.rt:88:1
 returns-2 : tie.Need-returns-2 Inv-loop μ-loop
 unfolding landsBy landedAt past
 returns-2 c =

@@ -19,51 +19,39 @@ Inv-loop columns wanted here j₀ j = (j ≤ columns) × (first j (offAt wanted 
 abbrev μ-loop : tie.MeasureT-loop
 μ-loop columns wanted here j₀ j = columns - j
 
--- src/lib.rt:192:5
 loop-holds : tie.Need-loop-holds Inv-loop μ-loop
 loop-holds c = (omega arith, first-nothing _)
 
--- src/lib.rt:193:19
 mul-is-off : tie.Need-mul-is-off Inv-loop μ-loop
 mul-is-off c = search needs
 
--- src/lib.rt:193:19
 element-copy-out-is-off : tie.Need-element-copy-out-is-off Inv-loop μ-loop
 element-copy-out-is-off c = search needs
 
--- src/lib.rt:193:30
 mul-is-off-2 : tie.Need-mul-is-off-2 Inv-loop μ-loop
 mul-is-off-2 c = search needs
 
--- src/lib.rt:193:30
 element-copy-out-is-off-2 : tie.Need-element-copy-out-is-off-2 Inv-loop μ-loop
 element-copy-out-is-off-2 c = search needs
 
--- src/lib.rt:193:12
 is-off-requires : tie.Need-is-off-requires Inv-loop μ-loop
 is-off-requires c κs = search needs
 
--- src/lib.rt:194:27
 cast-t15 : tie.Need-cast-t15 Inv-loop μ-loop
 cast-t15 c = search needs
 
--- src/lib.rt:194:13
 returns : tie.Need-returns Inv-loop μ-loop
 returns c = (sym (lowest-here _ _ _ (c .before .before .before .before .before .loop .j) (c .before .before .before .before .loop-test .taken) (c .before .before .before .before .before .loop .inv .1) (sym (c .before .is-off .ensures) ∙ c .if1 .taken)), omega arith)
 
--- src/lib.rt:196:9
 add-j : tie.Need-add-j Inv-loop μ-loop
 add-j c = search needs
 
--- src/lib.rt:192:5
 loop-less : tie.Need-loop-less Inv-loop μ-loop
 loop-less c = search needs
 
--- src/lib.rt:192:5
 loop-again : tie.Need-loop-again Inv-loop μ-loop
 loop-again c = (omega arith, first-more _ (c .before .before .before .before .before .loop .j) (c .before .before .before .before .before .loop .inv .1) (off-none _ _ (c .before .before .before .before .before .loop .j) (sym (c .before .is-off .ensures) ∙ c .if1 .left)))
 
--- src/lib.rt:183:1
 returns-2 : tie.Need-returns-2 Inv-loop μ-loop
 returns-2 c =
     let l = c .before .loop in

@@ -22,59 +22,45 @@ Inv-loop columns lands here₀ rs j₀ here j = (j ≤ columns) × (length here 
 abbrev μ-loop : tie.MeasureT-loop
 μ-loop columns lands here₀ rs j₀ here j = columns - j
 
--- src/lib.rt:121:14
 cast-rs : tie.Need-cast-rs Inv-loop μ-loop
 cast-rs c = search needs
 
--- src/lib.rt:121:14
 mul-rs : tie.Need-mul-rs Inv-loop μ-loop
 mul-rs c = search needs
 
--- src/lib.rt:123:5
 loop-holds : tie.Need-loop-holds Inv-loop μ-loop
 loop-holds c = (omega arith, search needs, sym (over-none _ _))
 
--- src/lib.rt:124:32
 add-landed : tie.Need-add-landed Inv-loop μ-loop
 add-landed c = search needs
 
--- src/lib.rt:124:26
 mul-landed : tie.Need-mul-landed Inv-loop μ-loop
 mul-landed c = search needs
 
--- src/lib.rt:124:26
 element-copy-out-landed : tie.Need-element-copy-out-landed Inv-loop μ-loop
 element-copy-out-landed c = search needs
 
--- src/lib.rt:124:41
 mul-landed-2 : tie.Need-mul-landed-2 Inv-loop μ-loop
 mul-landed-2 c = search needs
 
--- src/lib.rt:124:41
 element-copy-out-landed-2 : tie.Need-element-copy-out-landed-2 Inv-loop μ-loop
 element-copy-out-landed-2 c = search needs
 
--- src/lib.rt:124:19
 landed-requires : tie.Need-landed-requires Inv-loop μ-loop
 landed-requires c κs = search needs
 
--- src/lib.rt:124:9
 mul-here : tie.Need-mul-here Inv-loop μ-loop
 mul-here c = search needs
 
--- src/lib.rt:124:9
 element-write-here : tie.Need-element-write-here Inv-loop μ-loop
 element-write-here c = search needs
 
--- src/lib.rt:125:9
 add-j : tie.Need-add-j Inv-loop μ-loop
 add-j c = search needs
 
--- src/lib.rt:123:5
 loop-less : tie.Need-loop-less Inv-loop μ-loop
 loop-less c = search needs
 
--- src/lib.rt:123:5
 loop-again : tie.Need-loop-again Inv-loop μ-loop
 unfolding past
 loop-again c =
@@ -82,7 +68,6 @@ loop-again c =
     let g = c .before .before .before .before .before .before .args in
     (omega arith, simp length-set (l .inv .1), landed-over (past (g .lands .now) (g .s .0 * 16)) (l .j) _ (l .here) (g .here .now) (l .inv .2) (omega arith) (c .landed .ensures))
 
--- src/lib.rt:112:1
 returns : tie.Need-returns Inv-loop μ-loop
 unfolding takenBy landedAt
 returns c =

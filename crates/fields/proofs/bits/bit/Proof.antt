@@ -10,32 +10,25 @@ use Rattle.fields.proofs.bits.bit.Tie as tie
 use Rattle.fields.proofs.bits.bit.Reads as reads
 use Rattle.fields.proofs.bits.bit.Lts as lts
 
--- src/field.rt:14:9
 returns : tie.Need-returns
 unfolding bitAt
 returns c = simp (List·getD-eq-default (c .before .args .s .now) 0 (c .if1 .taken), zero-div)
 
--- src/field.rt:16:7
 shared-slice-read-result : tie.Need-shared-slice-read-result
 shared-slice-read-result c = search needs
 
--- src/field.rt:16:7
 cast-result : tie.Need-cast-result
 cast-result c = omega (arith, c .shared-slice-known .given (c .before .before .args .at / 8))
 
--- src/field.rt:16:24
 sub-result : tie.Need-sub-result
 sub-result c = search needs
 
--- src/field.rt:16:24
 cast-result-2 : tie.Need-cast-result-2
 cast-result-2 c = search needs
 
--- src/field.rt:16:6
 shr-result : tie.Need-shr-result
 shr-result c = search needs
 
--- src/field.rt:9:1
 returns-2 : tie.Need-returns-2
 unfolding bitAt
 returns-2 c = refl

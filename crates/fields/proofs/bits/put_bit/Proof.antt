@@ -11,42 +11,33 @@ use Rattle.fields.proofs.bits.put_bit.Reads as reads
 use Rattle.fields.proofs.bits.put_bit.Lts as lts
 use Rattle.fields.proofs.bits.with_bit.Reads as with-bit-reads
 
--- src/put.rt:30:17
 slice-read-x : tie.Need-slice-read-x
 slice-read-x c = search needs
 
--- src/put.rt:30:17
 cast-x : tie.Need-cast-x
 cast-x c = omega (arith, c .slice-known2 .given (c .before .before .before .args .k / 8))
 
--- src/put.rt:31:29
 sub-with-bit : tie.Need-sub-with-bit
 sub-with-bit c = search needs
 
--- src/put.rt:31:13
 with-bit-requires : tie.Need-with-bit-requires
 with-bit-requires c κs = omega (arith, c .slice-known2 .given (c .before .before .before .args .k / 8))
 
--- src/put.rt:32:18
 cast-out : tie.Need-cast-out
 cast-out c = search needs
 
--- src/put.rt:32:9
 slice-write-out : tie.Need-slice-write-out
 slice-write-out c = search needs
 
--- src/put.rt:24:1
 same-length : tie.Need-same-length
 same-length c = search needs
 
--- src/put.rt:24:1
 returns : tie.Need-returns
 unfolding putBit
 returns c =
     let a = c .before .before .before .before .args in
     ap (set (a .out .now) (a .k / 8)) (c .with-bit .ensures .0)
 
--- src/put.rt:24:1
 returns-2 : tie.Need-returns-2
 unfolding putBit
 returns-2 c =

@@ -8,15 +8,12 @@ use Rattle.fields.proofs.bits.weight.Tie as tie
 use Rattle.fields.proofs.bits.weight.Reads as reads
 use Rattle.fields.proofs.bits.weight.Lts as lts
 
--- src/put.rt:11:13
 cast-result : tie.Need-cast-result
 cast-result c = search needs
 
--- src/put.rt:11:5
 shl-result : tie.Need-shl-result
 shl-result c = search needs
 
--- src/put.rt:7:1
 returns : tie.Need-returns
 returns c = shl-exact 1 (c .args .e) 32 (omega arith) (omega arith) ∙ one-mul _
 

@@ -12,53 +12,44 @@ use Rattle.fields.proofs.bits.with_bit.Reads as reads
 use Rattle.fields.proofs.bits.with_bit.Lts as lts
 use Rattle.fields.proofs.bits.weight.Reads as weight-reads
 
--- src/put.rt:19:9
 weight-requires : tie.Need-weight-requires
 weight-requires c κs = search needs
 
--- src/put.rt:20:13
 mul-q : tie.Need-mul-q
 mul-q c =
     let a = c .before .args in
     omega (arith, pow-mono {i = a .e} {j = 7} (omega arith))
 
--- src/put.rt:21:5
 div-result : tie.Need-div-result
 div-result c =
     let a = c .before .args in
     omega (arith, pow-pos (a .e))
 
--- src/put.rt:21:5
 mul-result : tie.Need-mul-result
 mul-result c =
     let a = c .before .args in
     omega (arith, div-mul-le-self (a .x) (2 * c .weight .result))
 
--- src/put.rt:21:18
 mul-result-2 : tie.Need-mul-result-2
 mul-result-2 c =
     let a = c .before .args in
     omega (arith, pow-mono {i = a .e} {j = 7} (omega arith), mul-le-mul {n₁ = a .b} {m₁ = c .weight .result} {n₂ = 1} {m₂ = c .weight .result} (omega arith) (omega arith))
 
--- src/put.rt:21:26
 rem-result : tie.Need-rem-result
 rem-result c =
     let a = c .before .args in
     omega (arith, pow-pos (a .e))
 
--- src/put.rt:21:18
 add-result : tie.Need-add-result
 add-result c =
     let a = c .before .args in
     omega (arith, pow-mono {i = a .e} {j = 7} (omega arith), mul-le-mul {n₁ = a .b} {m₁ = c .weight .result} {n₂ = 1} {m₂ = c .weight .result} (omega arith) (omega arith), mod-le (a .x) (c .weight .result))
 
--- src/put.rt:21:5
 add-result-2 : tie.Need-add-result-2
 add-result-2 c =
     let a = c .before .args in
     omega (arith, pow-mono {i = a .e} {j = 7} (omega arith), mul-le-mul {n₁ = a .b} {m₁ = c .weight .result} {n₂ = 1} {m₂ = c .weight .result} (omega arith) (omega arith), mod-le (a .x) (c .weight .result), div-mul-le-self (a .x) (2 * c .weight .result))
 
--- src/put.rt:15:1
 returns : tie.Need-returns
 unfolding withBit
 returns c =

@@ -16,44 +16,35 @@ Inv-loop s at w v₀ k₀ v k = (k ≤ w) × (v ≡ fieldAt s at k)
 abbrev μ-loop : tie.MeasureT-loop
 μ-loop s at w v₀ k₀ v k = w - k
 
--- src/field.rt:22:5
 loop-holds : tie.Need-loop-holds Inv-loop μ-loop
 unfolding fieldAt
 loop-holds c = search needs
 
--- src/field.rt:23:13
 mul-v : tie.Need-mul-v Inv-loop μ-loop
 mul-v c =
     let a = c .before .before .before .args in
     omega (arith, field-fits (a .s .now) (a .at) (c .before .loop .k) {m = 31} (omega arith))
 
--- src/field.rt:23:28
 add-bit : tie.Need-add-bit Inv-loop μ-loop
 add-bit c = omega arith
 
--- src/field.rt:23:21
 bit-requires : tie.Need-bit-requires Inv-loop μ-loop
 bit-requires c κs = omega arith
 
--- src/field.rt:23:13
 add-v : tie.Need-add-v Inv-loop μ-loop
 add-v c =
     let a = c .before .before .before .before .args in
     omega (arith, field-fits (a .s .now) (a .at) (c .before .before .loop .k) {m = 31} (omega arith), bit-lt (a .s .now) (a .at + c .before .before .loop .k))
 
--- src/field.rt:24:9
 add-k : tie.Need-add-k Inv-loop μ-loop
 add-k c = omega arith
 
--- src/field.rt:22:5
 loop-less : tie.Need-loop-less Inv-loop μ-loop
 loop-less c = omega arith
 
--- src/field.rt:22:5
 loop-again : tie.Need-loop-again Inv-loop μ-loop
 loop-again c = (omega arith, rw field-more (cc))
 
--- src/field.rt:16:1
 returns : tie.Need-returns Inv-loop μ-loop
 returns c = let e : c .before .loop .k ≡ c .before .before .before .args .w = omega arith in cc
 

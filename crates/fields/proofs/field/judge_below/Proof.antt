@@ -11,31 +11,25 @@ use Rattle.fields.proofs.field.judge_below.Reads as reads
 use Rattle.fields.proofs.field.judge_below.Lts as lts
 use Rattle.fields.proofs.field.field.Reads as field-reads
 
--- src/field.rt:47:19
 add-if1 : tie.Need-add-if1
 add-if1 c = search needs
 
--- src/field.rt:47:19
 add-if1-2 : tie.Need-add-if1-2
 add-if1-2 c = search needs
 
--- src/field.rt:48:9
 returns : tie.Need-returns
 returns c =
     let a = c .before .before .args in
     cut (a .w) (onSheet (a .s .now) (a .at) (a .w)) (a .code) (leb (a .end) (fieldAt (a .s .now) (a .at) (a .w))) (sheet-cut (a .s .now) (a .at) (a .w) (omega arith))
 
--- src/field.rt:50:9
 field-requires : tie.Need-field-requires
 field-requires c κs = search needs
 
--- src/field.rt:52:9
 returns-2 : tie.Need-returns-2
 returns-2 c =
     let a = c .before .before .before .before .args in
     spoilt (a .w) (onSheet (a .s .now) (a .at) (a .w)) (a .code) (leb (a .end) (fieldAt (a .s .now) (a .at) (a .w))) (sheet-here (a .s .now) (a .at) (a .w) (omega arith)) (le-leb (a .end) (fieldAt (a .s .now) (a .at) (a .w)) (omega arith))
 
--- src/field.rt:43:1
 returns-3 : tie.Need-returns-3
 returns-3 c =
     let a = c .before .before .before .before .args in

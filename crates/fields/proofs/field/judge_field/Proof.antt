@@ -9,37 +9,30 @@ use Rattle.fields.proofs.field.judge_field.Reads as reads
 use Rattle.fields.proofs.field.judge_field.Lts as lts
 use Rattle.fields.proofs.field.field.Reads as field-reads
 
--- src/field.rt:29:19
 add-if1 : tie.Need-add-if1
 add-if1 c = search needs
 
--- src/field.rt:29:19
 add-if1-2 : tie.Need-add-if1-2
 add-if1-2 c = search needs
 
--- src/field.rt:30:9
 returns : tie.Need-returns
 returns c =
     let a = c .before .before .args in
     cut (a .w) (onSheet (a .s .now) (a .at) (a .w)) (a .code) (outside (a .low) (a .high) (fieldAt (a .s .now) (a .at) (a .w))) (sheet-cut (a .s .now) (a .at) (a .w) (omega arith))
 
--- src/field.rt:32:9
 field-requires : tie.Need-field-requires
 field-requires c κs = search needs
 
--- src/field.rt:34:9
 returns-2 : tie.Need-returns-2
 returns-2 c =
     let a = c .before .before .before .before .args in
     spoilt (a .w) (onSheet (a .s .now) (a .at) (a .w)) (a .code) (outside (a .low) (a .high) (fieldAt (a .s .now) (a .at) (a .w))) (sheet-here (a .s .now) (a .at) (a .w) (omega arith)) (below-low (a .low) (a .high) (fieldAt (a .s .now) (a .at) (a .w)) (omega arith))
 
--- src/field.rt:37:9
 returns-3 : tie.Need-returns-3
 returns-3 c =
     let a = c .before .before .before .before .before .args in
     spoilt (a .w) (onSheet (a .s .now) (a .at) (a .w)) (a .code) (outside (a .low) (a .high) (fieldAt (a .s .now) (a .at) (a .w))) (sheet-here (a .s .now) (a .at) (a .w) (omega arith)) (above-high (a .low) (a .high) (fieldAt (a .s .now) (a .at) (a .w)) (omega arith) (omega arith))
 
--- src/field.rt:25:1
 returns-4 : tie.Need-returns-4
 returns-4 c =
     let a = c .before .before .before .before .before .args in

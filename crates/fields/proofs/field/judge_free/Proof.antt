@@ -9,21 +9,17 @@ use Rattle.fields.proofs.field.judge_free.Tie as tie
 use Rattle.fields.proofs.field.judge_free.Reads as reads
 use Rattle.fields.proofs.field.judge_free.Lts as lts
 
--- src/field.rt:62:19
 add-if1 : tie.Need-add-if1
 add-if1 c = search needs
 
--- src/field.rt:62:19
 add-if1-2 : tie.Need-add-if1-2
 add-if1-2 c = search needs
 
--- src/field.rt:63:9
 returns : tie.Need-returns
 returns c =
     let a = c .before .args in
     cut (a .w) (onSheet (a .s .now) (a .at) (a .w)) 1 false (sheet-cut (a .s .now) (a .at) (a .w) (omega arith))
 
--- src/field.rt:58:1
 returns-2 : tie.Need-returns-2
 returns-2 c =
     let a = c .before .args in

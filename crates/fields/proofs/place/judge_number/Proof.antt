@@ -7,19 +7,16 @@ use Rattle.fields.proofs.place.judge_number.Tie as tie
 use Rattle.fields.proofs.place.judge_number.Reads as reads
 use Rattle.fields.proofs.place.judge_number.Lts as lts
 
--- src/place.rt:33:9
 returns : tie.Need-returns
 returns c =
     λ w. let a = c .before .args in
     spoilt w (given (a .v)) (a .code) (outside (a .low) (a .high) (a .v)) refl (below-low (a .low) (a .high) (a .v) (omega arith))
 
--- src/place.rt:36:9
 returns-2 : tie.Need-returns-2
 returns-2 c =
     λ w. let a = c .before .before .args in
     spoilt w (given (a .v)) (a .code) (outside (a .low) (a .high) (a .v)) refl (above-high (a .low) (a .high) (a .v) (omega arith) (omega arith))
 
--- src/place.rt:29:1
 returns-3 : tie.Need-returns-3
 returns-3 c =
     λ w. let a = c .before .before .args in

@@ -9,29 +9,24 @@ use Rattle.fields.proofs.place.judge_place.Reads as reads
 use Rattle.fields.proofs.place.judge_place.Lts as lts
 use Rattle.fields.proofs.place.place.Reads as place-reads
 
--- src/place.rt:46:9
 returns : tie.Need-returns
 returns c =
     λ w. let a = c .before .before .args in
     cut w (inTable (a .t .now) (a .i)) (a .code) (outside (a .low) (a .high) (getD (a .t .now) (a .i) 0)) (place-cut (a .t .now) (a .i) (omega arith))
 
--- src/place.rt:48:9
 place-requires : tie.Need-place-requires
 place-requires c κs = search needs
 
--- src/place.rt:50:9
 returns-2 : tie.Need-returns-2
 returns-2 c =
     λ w. let a = c .before .before .before .before .args in
     spoilt w (inTable (a .t .now) (a .i)) (a .code) (outside (a .low) (a .high) (getD (a .t .now) (a .i) 0)) (place-here (a .t .now) (a .i) (omega arith)) (below-low (a .low) (a .high) (getD (a .t .now) (a .i) 0) (omega arith))
 
--- src/place.rt:53:9
 returns-3 : tie.Need-returns-3
 returns-3 c =
     λ w. let a = c .before .before .before .before .before .args in
     spoilt w (inTable (a .t .now) (a .i)) (a .code) (outside (a .low) (a .high) (getD (a .t .now) (a .i) 0)) (place-here (a .t .now) (a .i) (omega arith)) (above-high (a .low) (a .high) (getD (a .t .now) (a .i) 0) (omega arith) (omega arith))
 
--- src/place.rt:42:1
 returns-4 : tie.Need-returns-4
 returns-4 c =
     λ w. let a = c .before .before .before .before .before .args in

@@ -11,23 +11,19 @@ use Rattle.fields.proofs.place.judge_place_below.Reads as reads
 use Rattle.fields.proofs.place.judge_place_below.Lts as lts
 use Rattle.fields.proofs.place.place.Reads as place-reads
 
--- src/place.rt:63:9
 returns : tie.Need-returns
 returns c =
     λ w. let a = c .before .before .args in
     cut w (inTable (a .t .now) (a .i)) (a .code) (leb (a .end) (getD (a .t .now) (a .i) 0)) (place-cut (a .t .now) (a .i) (omega arith))
 
--- src/place.rt:65:9
 place-requires : tie.Need-place-requires
 place-requires c κs = search needs
 
--- src/place.rt:67:9
 returns-2 : tie.Need-returns-2
 returns-2 c =
     λ w. let a = c .before .before .before .before .args in
     spoilt w (inTable (a .t .now) (a .i)) (a .code) (leb (a .end) (getD (a .t .now) (a .i) 0)) (place-here (a .t .now) (a .i) (omega arith)) (le-leb (a .end) (getD (a .t .now) (a .i) 0) (omega arith))
 
--- src/place.rt:59:1
 returns-3 : tie.Need-returns-3
 returns-3 c =
     λ w. let a = c .before .before .before .before .args in

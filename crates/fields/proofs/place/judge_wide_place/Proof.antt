@@ -8,13 +8,11 @@ use Rattle.fields.proofs.place.judge_wide_place.Tie as tie
 use Rattle.fields.proofs.place.judge_wide_place.Reads as reads
 use Rattle.fields.proofs.place.judge_wide_place.Lts as lts
 
--- src/place.rt:77:9
 returns : tie.Need-returns
 returns c =
     λ w. let a = c .before .args in
     cut w (inTable (a .t .now) (a .i)) 1 false (place-cut (a .t .now) (a .i) (omega arith))
 
--- src/place.rt:73:1
 returns-2 : tie.Need-returns-2
 returns-2 c =
     λ w. let a = c .before .args in

@@ -16,54 +16,42 @@ Inv-loop out₀ at w v k₀ out k = (k ≤ w) × (out ≡ putField at k (v / 2 ^
 abbrev μ-loop : tie.MeasureT-loop
 μ-loop out₀ at w v k₀ out k = w - k
 
--- src/put.rt:41:5
 loop-holds : tie.Need-loop-holds Inv-loop μ-loop
 loop-holds c = (omega arith, put-none _ _ _)
 
--- src/put.rt:42:22
 add-put-bit : tie.Need-add-put-bit Inv-loop μ-loop
 add-put-bit c = omega arith
 
--- src/put.rt:42:37
 sub-put-bit : tie.Need-sub-put-bit Inv-loop μ-loop
 sub-put-bit c = omega arith
 
--- src/put.rt:42:37
 sub-put-bit-2 : tie.Need-sub-put-bit-2 Inv-loop μ-loop
 sub-put-bit-2 c = omega arith
 
--- src/put.rt:42:37
 cast-put-bit : tie.Need-cast-put-bit Inv-loop μ-loop
 cast-put-bit c = omega arith
 
--- src/put.rt:42:31
 shr-put-bit : tie.Need-shr-put-bit Inv-loop μ-loop
 shr-put-bit c = omega arith
 
--- src/put.rt:42:9
 put-bit-requires : tie.Need-put-bit-requires Inv-loop μ-loop
 put-bit-requires c κs = omega arith
 
--- src/put.rt:43:9
 add-k : tie.Need-add-k Inv-loop μ-loop
 add-k c = omega arith
 
--- src/put.rt:41:5
 loop-less : tie.Need-loop-less Inv-loop μ-loop
 loop-less c = omega arith
 
--- src/put.rt:41:5
 loop-again : tie.Need-loop-again Inv-loop μ-loop
 loop-again c =
     let a = c .before .before .before .before .before .before .before .args in
     let l = c .before .before .before .before .before .loop in
     (omega arith, c .before .before .put-bit .ensures ∙ put-more (a .at) (a .w) (a .v) (l .k) (a .out .now) (omega arith) (l .inv .1))
 
--- src/put.rt:36:1
 same-length : tie.Need-same-length Inv-loop μ-loop
 same-length c = ap length (c .before .loop .inv .1) ∙ length-field _ _ _ _
 
--- src/put.rt:36:1
 returns : tie.Need-returns Inv-loop μ-loop
 returns c =
     let a = c .before .before .before .args in

@@ -9,53 +9,42 @@ use Rattle.fields.proofs.place.judge_place.Reads as judge-place-reads
 use Rattle.fields.proofs.place.judge_place_below.Reads as judge-place-below-reads
 use Rattle.fields.proofs.place.place.Reads as place-reads
 
--- src/given.rt:32:14
 mul-at : tie.Need-mul-at
 mul-at c = search needs
 
--- src/given.rt:33:39
 cast-judge-place : tie.Need-cast-judge-place
 cast-judge-place c = search needs
 
--- src/given.rt:33:9
 judge-place-requires : tie.Need-judge-place-requires
 judge-place-requires c κs = search needs
 
--- src/given.rt:35:9
 returns : tie.Need-returns
 unfolding columnIn
 returns c =
     let a = c .before .before .before .args in
     size-bad (columnIn (a .frame .now)) (a .i) (c .before .judge-place .ensures 6) (c .if1 .taken)
 
--- src/given.rt:37:9
 place-requires : tie.Need-place-requires
 place-requires c κs = search needs
 
--- src/given.rt:38:38
 add-judge-place-below : tie.Need-add-judge-place-below
 add-judge-place-below c = search needs
 
--- src/given.rt:38:9
 judge-place-below-requires : tie.Need-judge-place-below-requires
 judge-place-below-requires c κs = search needs
 
--- src/given.rt:40:9
 returns-2 : tie.Need-returns-2
 unfolding columnIn
 returns-2 c =
     let a = c .before .before .before .before .before .before .args in
     start-bad (columnIn (a .frame .now)) (a .i) (c .before .before .before .before .judge-place .ensures 6) (c .before .before .before .if1 .left) (c .before .before .place .ensures) (c .before .judge-place-below .ensures 5) (c .if2 .taken)
 
--- src/given.rt:42:24
 add-judge-place : tie.Need-add-judge-place
 add-judge-place c = search needs
 
--- src/given.rt:42:5
 judge-place-requires-2 : tie.Need-judge-place-requires-2
 judge-place-requires-2 c κs = search needs
 
--- src/given.rt:28:1
 returns-3 : tie.Need-returns-3
 unfolding columnIn
 returns-3 c =

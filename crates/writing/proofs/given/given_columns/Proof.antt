@@ -20,38 +20,31 @@ abbrev μ-loop : tie.MeasureT-loop
 μ-loop frame n i₀ i =
     n - i
 
--- src/given.rt:50:5
 loop-holds : tie.Need-loop-holds Inv-loop μ-loop
 loop-holds c =
     (omega arith, none _)
 
--- src/given.rt:51:13
 given-column-requires : tie.Need-given-column-requires Inv-loop μ-loop
 given-column-requires c κs = search needs
 
--- src/given.rt:53:13
 returns : tie.Need-returns Inv-loop μ-loop
 returns c =
     let a = c .before .before .before .before .before .args in
     let l = c .before .before .before .loop in
     hit (l .i) (a .n) (columnPart (columnIn (a .frame .now))) (omega arith) (l .inv .1) (c .before .given-column .ensures) (c .if1 .taken)
 
--- src/given.rt:55:9
 add-i : tie.Need-add-i Inv-loop μ-loop
 add-i c = search needs
 
--- src/given.rt:50:5
 loop-less : tie.Need-loop-less Inv-loop μ-loop
 loop-less c = search needs
 
--- src/given.rt:50:5
 loop-again : tie.Need-loop-again Inv-loop μ-loop
 loop-again c =
     let a = c .before .before .before .before .before .args in
     let l = c .before .before .before .loop in
     (omega arith, pass (l .i) (columnPart (columnIn (a .frame .now))) (l .inv .1) (c .before .given-column .ensures) (c .if1 .left))
 
--- src/given.rt:45:1
 returns-2 : tie.Need-returns-2 Inv-loop μ-loop
 returns-2 c =
     let a = c .before .before .before .args in

@@ -6,29 +6,23 @@ use Rattle.writing.proofs.given.given_header.Reads as reads
 use Rattle.writing.proofs.given.given_header.Lts as lts
 use Rattle.fields.proofs.place.judge_number.Reads as judge-number-reads
 
--- src/given.rt:17:9
 judge-number-requires : tie.Need-judge-number-requires
 judge-number-requires c κs = search needs
 
--- src/given.rt:19:9
 returns : tie.Need-returns
 returns c =
     form-bad _ _ _ (c .before .judge-number .ensures 4) (c .if1 .taken)
 
--- src/given.rt:21:9
 judge-number-requires-2 : tie.Need-judge-number-requires-2
 judge-number-requires-2 c κs = search needs
 
--- src/given.rt:23:9
 returns-2 : tie.Need-returns-2
 returns-2 c =
     columns-bad _ _ _ (c .before .before .before .judge-number .ensures 4) (c .before .before .if1 .left) (c .before .judge-number2 .ensures 5) (c .if2 .taken)
 
--- src/given.rt:25:5
 judge-number-requires-3 : tie.Need-judge-number-requires-3
 judge-number-requires-3 c κs = search needs
 
--- src/given.rt:14:1
 returns-3 : tie.Need-returns-3
 returns-3 c =
     steps-last _ _ _ (c .before .before .before .before .judge-number .ensures 4) (c .before .before .before .if1 .left) (c .before .before .judge-number2 .ensures 5) (c .before .if2 .left) (c .judge-number3 .ensures 8)

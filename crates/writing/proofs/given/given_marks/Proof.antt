@@ -10,56 +10,45 @@ use Rattle.writing.proofs.given.given_marks.Lts as lts
 use Rattle.fields.proofs.place.judge_place.Reads as judge-place-reads
 use Rattle.fields.proofs.place.place.Reads as place-reads
 
--- src/given.rt:64:29
 mul-place : tie.Need-mul-place
 mul-place c = search needs
 
--- src/given.rt:64:9
 place-requires : tie.Need-place-requires
 place-requires c κs = search needs
 
--- src/given.rt:65:19
 mul-at : tie.Need-mul-at
 mul-at c = search needs
 
--- src/given.rt:65:14
 mul-at-2 : tie.Need-mul-at-2
 mul-at-2 c =
     let a = c .before .before .before .args in
     omega (arith, row-le (a .n) (a .j) (omega arith) (omega arith))
 
--- src/given.rt:65:28
 mul-at-3 : tie.Need-mul-at-3
 mul-at-3 c = search needs
 
--- src/given.rt:65:14
 add-at : tie.Need-add-at
 add-at c =
     let a = c .before .before .before .args in
     omega (arith, row-le (a .n) (a .j) (omega arith) (omega arith))
 
--- src/given.rt:66:9
 judge-place-requires : tie.Need-judge-place-requires
 judge-place-requires c κs = search needs
 
--- src/given.rt:68:9
 returns : tie.Need-returns
 unfolding columnIn marksIn
 returns c =
     let a = c .before .before .before .before .before .args in
     need-bad (columnIn (a .frame .now)) (a .i) (marksIn (a .marks .now) (a .n)) (a .j) (c .before .before .place .ensures) (c .before .judge-place .ensures 6) (c .if1 .taken)
 
--- src/given.rt:70:24
 add-judge-place : tie.Need-add-judge-place
 add-judge-place c =
     let a = c .before .before .before .before .before .args in
     omega (arith, row-le (a .n) (a .j) (omega arith) (omega arith))
 
--- src/given.rt:70:5
 judge-place-requires-2 : tie.Need-judge-place-requires-2
 judge-place-requires-2 c κs = search needs
 
--- src/given.rt:60:1
 returns-2 : tie.Need-returns-2
 unfolding columnIn marksIn
 returns-2 c =

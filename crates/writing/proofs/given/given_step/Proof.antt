@@ -22,48 +22,39 @@ abbrev μ-loop : tie.MeasureT-loop
 μ-loop frame costs marks n j a i₀ i =
     n - i
 
--- src/given.rt:77:9
 judge-wide-place-requires : tie.Need-judge-wide-place-requires Inv-loop μ-loop
 judge-wide-place-requires c κs = search needs
 
--- src/given.rt:79:9
 returns : tie.Need-returns Inv-loop μ-loop
 returns c =
     let a = c .before .before .before .before .before .args in
     cost-cut (columnIn (a .frame .now)) (inTable (a .costs .now)) (marksIn (a .marks .now) (a .n)) (a .n) (a .j) (c .before .judge-wide-place .ensures 16) (c .if1 .taken)
 
--- src/given.rt:82:5
 loop-holds : tie.Need-loop-holds Inv-loop μ-loop
 loop-holds c =
     (omega arith, none _)
 
--- src/given.rt:83:13
 given-marks-requires : tie.Need-given-marks-requires Inv-loop μ-loop
 given-marks-requires c κs = search needs
 
--- src/given.rt:85:13
 returns-2 : tie.Need-returns-2 Inv-loop μ-loop
 returns-2 c =
     let a = c .before .before .before .before .before .before .before .before .before .args in
     let l = c .before .before .before .loop in
     marks-last (columnIn (a .frame .now)) (inTable (a .costs .now)) (marksIn (a .marks .now) (a .n)) (a .n) (a .j) (c .before .before .before .before .before .judge-wide-place .ensures 16) (c .before .before .before .before .if1 .left) (hit (l .i) (a .n) (marksPart (columnIn (a .frame .now)) (marksIn (a .marks .now) (a .n)) (a .j)) (omega arith) (l .inv .1) (c .before .given-marks .ensures) (c .if2 .taken))
 
--- src/given.rt:87:9
 add-i : tie.Need-add-i Inv-loop μ-loop
 add-i c = search needs
 
--- src/given.rt:82:5
 loop-less : tie.Need-loop-less Inv-loop μ-loop
 loop-less c = search needs
 
--- src/given.rt:82:5
 loop-again : tie.Need-loop-again Inv-loop μ-loop
 loop-again c =
     let a = c .before .before .before .before .before .before .before .before .before .args in
     let l = c .before .before .before .loop in
     (omega arith, pass (l .i) (marksPart (columnIn (a .frame .now)) (marksIn (a .marks .now) (a .n)) (a .j)) (l .inv .1) (c .before .given-marks .ensures) (c .if2 .left))
 
--- src/given.rt:73:1
 returns-3 : tie.Need-returns-3 Inv-loop μ-loop
 returns-3 c =
     let a = c .before .before .before .before .before .before .before .args in

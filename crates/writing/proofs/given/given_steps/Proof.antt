@@ -20,38 +20,31 @@ abbrev μ-loop : tie.MeasureT-loop
 μ-loop frame costs marks n m j₀ j =
     m - j
 
--- src/given.rt:97:5
 loop-holds : tie.Need-loop-holds Inv-loop μ-loop
 loop-holds c =
     (omega arith, none _)
 
--- src/given.rt:98:13
 given-step-requires : tie.Need-given-step-requires Inv-loop μ-loop
 given-step-requires c κs = search needs
 
--- src/given.rt:100:13
 returns : tie.Need-returns Inv-loop μ-loop
 returns c =
     let a = c .before .before .before .before .before .before .before .args in
     let l = c .before .before .before .loop in
     hit (l .j) (a .m) (stepPart (columnIn (a .frame .now)) (inTable (a .costs .now)) (marksIn (a .marks .now) (a .n)) (a .n)) (omega arith) (l .inv .1) (c .before .given-step .ensures) (c .if1 .taken)
 
--- src/given.rt:102:9
 add-j : tie.Need-add-j Inv-loop μ-loop
 add-j c = search needs
 
--- src/given.rt:97:5
 loop-less : tie.Need-loop-less Inv-loop μ-loop
 loop-less c = search needs
 
--- src/given.rt:97:5
 loop-again : tie.Need-loop-again Inv-loop μ-loop
 loop-again c =
     let a = c .before .before .before .before .before .before .before .args in
     let l = c .before .before .before .loop in
     (omega arith, pass (l .j) (stepPart (columnIn (a .frame .now)) (inTable (a .costs .now)) (marksIn (a .marks .now) (a .n)) (a .n)) (l .inv .1) (c .before .given-step .ensures) (c .if1 .left))
 
--- src/given.rt:92:1
 returns-2 : tie.Need-returns-2 Inv-loop μ-loop
 returns-2 c =
     let a = c .before .before .before .before .before .args in

@@ -12,37 +12,31 @@ use Rattle.writing.proofs.given.given_columns.Reads as given-columns-re
 use Rattle.writing.proofs.given.given_header.Reads as given-header-reads
 use Rattle.writing.proofs.given.given_steps.Reads as given-steps-reads
 
--- src/given.rt:111:9
 given-header-requires : tie.Need-given-header-requires
 given-header-requires c κs = search needs
 
--- src/given.rt:113:9
 returns : tie.Need-returns
 returns c =
     let a = c .before .before .before .before .before .args in
     given-header (a .n) (a .m) (a .frame .now) (a .costs .now) (a .marks .now) (c .before .given-header .ensures) (c .if1 .taken)
 
--- src/given.rt:115:9
 given-columns-requires : tie.Need-given-columns-requires
 given-columns-requires c κs =
     let a = c .before .before .before .before .before .args in
     let h = header-fine (given 1) (given (a .n)) (given (a .m)) (sym (c .before .given-header .ensures) ∙ c .if1 .left) in
     omega (arith, h .columns, h .steps)
 
--- src/given.rt:117:9
 returns-2 : tie.Need-returns-2
 returns-2 c =
     let a = c .before .before .before .before .before .before .before .args in
     given-columns (a .n) (a .m) (a .frame .now) (a .costs .now) (a .marks .now) (c .before .before .before .given-header .ensures) (c .before .before .if1 .left) (c .before .given-columns .ensures) (c .if2 .taken)
 
--- src/given.rt:119:5
 given-steps-requires : tie.Need-given-steps-requires
 given-steps-requires c κs =
     let a = c .before .before .before .before .before .before .before .args in
     let h = header-fine (given 1) (given (a .n)) (given (a .m)) (sym (c .before .before .before .given-header .ensures) ∙ c .before .before .if1 .left) in
     omega (arith, h .columns, h .steps)
 
--- src/given.rt:108:1
 returns-3 : tie.Need-returns-3
 returns-3 c =
     let a = c .before .before .before .before .before .before .before .before .args in

@@ -11,75 +11,57 @@ use Rattle.writing.proofs.put.put_column.Lts as lts
 use Rattle.fields.proofs.place.place.Reads as place-reads
 use Rattle.fields.proofs.put.put_field.Reads as put-field-reads
 
--- src/put.rt:26:19
 mul-at : tie.Need-mul-at
 mul-at c = search needs
 
--- src/put.rt:26:14
 add-at : tie.Need-add-at
 add-at c = search needs
 
--- src/put.rt:27:40
 mul-place : tie.Need-mul-place
 mul-place c = search needs
 
--- src/put.rt:27:27
 place-requires : tie.Need-place-requires
 place-requires c κs = search needs
 
--- src/put.rt:27:5
 put-field-requires : tie.Need-put-field-requires
 put-field-requires c κs = search needs
 
--- src/put.rt:28:20
 add-put-field : tie.Need-add-put-field
 add-put-field c = search needs
 
--- src/put.rt:28:44
 mul-place-2 : tie.Need-mul-place-2
 mul-place-2 c = search needs
 
--- src/put.rt:28:44
 add-place : tie.Need-add-place
 add-place c = search needs
 
--- src/put.rt:28:31
 place-requires-2 : tie.Need-place-requires-2
 place-requires-2 c κs = search needs
 
--- src/put.rt:28:5
 put-field-requires-2 : tie.Need-put-field-requires-2
 put-field-requires-2 c κs = search needs
 
--- src/put.rt:29:20
 add-put-field-2 : tie.Need-add-put-field-2
 add-put-field-2 c = search needs
 
--- src/put.rt:29:20
 add-put-field-3 : tie.Need-add-put-field-3
 add-put-field-3 c = search needs
 
--- src/put.rt:29:48
 mul-place-3 : tie.Need-mul-place-3
 mul-place-3 c = search needs
 
--- src/put.rt:29:48
 add-place-2 : tie.Need-add-place-2
 add-place-2 c = search needs
 
--- src/put.rt:29:35
 place-requires-3 : tie.Need-place-requires-3
 place-requires-3 c κs = search needs
 
--- src/put.rt:29:5
 put-field-requires-3 : tie.Need-put-field-requires-3
 put-field-requires-3 c κs = search needs
 
--- src/put.rt:22:1
 same-length : tie.Need-same-length
 same-length c = search needs
 
--- src/put.rt:22:1
 returns : tie.Need-returns
 unfolding packed columnPart columnIn
 returns c =

@@ -23,36 +23,29 @@ abbrev μ-loop : tie.MeasureT-loop
 μ-loop out₀ frame n i₀ out i =
     n - i
 
--- src/put.rt:37:5
 loop-holds : tie.Need-loop-holds Inv-loop μ-loop
 loop-holds c =
     (omega arith, packed-none _ _ _)
 
--- src/put.rt:38:9
 put-column-requires : tie.Need-put-column-requires Inv-loop μ-loop
 put-column-requires c κs = search needs
 
--- src/put.rt:39:9
 add-i : tie.Need-add-i Inv-loop μ-loop
 add-i c = search needs
 
--- src/put.rt:37:5
 loop-less : tie.Need-loop-less Inv-loop μ-loop
 loop-less c = search needs
 
--- src/put.rt:37:5
 loop-again : tie.Need-loop-again Inv-loop μ-loop
 loop-again c =
     let a = c .before .before .before .before .before .before .before .before .args in
     let l = c .before .before .before .before .before .loop in
     (omega arith, c .before .before .put-column .ensures ∙ packed-more (columnPart (columnIn (a .frame .now))) 17 (column-bits (columnIn (a .frame .now))) 17 (l .i) (a .out .now) (l .inv .1))
 
--- src/put.rt:32:1
 same-length : tie.Need-same-length Inv-loop μ-loop
 same-length c =
     ap length (c .before .loop .inv .1) ∙ packed-length _ _ _
 
--- src/put.rt:32:1
 returns : tie.Need-returns Inv-loop μ-loop
 returns c =
     let l = c .before .loop in

@@ -9,31 +9,24 @@ use Rattle.writing.proofs.put.put_header.Reads as reads
 use Rattle.writing.proofs.put.put_header.Lts as lts
 use Rattle.fields.proofs.put.put_field.Reads as put-field-reads
 
--- src/put.rt:17:5
 put-field-requires : tie.Need-put-field-requires
 put-field-requires c κs = search needs
 
--- src/put.rt:18:26
 cast-put-field : tie.Need-cast-put-field
 cast-put-field c = search needs
 
--- src/put.rt:18:5
 put-field-requires-2 : tie.Need-put-field-requires-2
 put-field-requires-2 c κs = search needs
 
--- src/put.rt:19:26
 cast-put-field-2 : tie.Need-cast-put-field-2
 cast-put-field-2 c = search needs
 
--- src/put.rt:19:5
 put-field-requires-3 : tie.Need-put-field-requires-3
 put-field-requires-3 c κs = search needs
 
--- src/put.rt:13:1
 same-length : tie.Need-same-length
 same-length c = search needs
 
--- src/put.rt:13:1
 returns : tie.Need-returns
 unfolding packed headerPart
 returns c =

@@ -14,73 +14,57 @@ use Rattle.fields.proofs.place.place.Reads as place-reads
 use Rattle.fields.proofs.put.put_field.Reads as put-field-reads
 use Rattle.sheets.proofs.model_bits.Reads as model-bits-reads
 
--- src/put.rt:48:16
 model-bits-requires : tie.Need-model-bits-requires
 model-bits-requires c κs = search needs
 
--- src/put.rt:48:16
 add-need : tie.Need-add-need
 add-need c = search needs
 
--- src/put.rt:48:40
 mul-need : tie.Need-mul-need
 mul-need c = search needs
 
--- src/put.rt:48:16
 add-need-2 : tie.Need-add-need-2
 add-need-2 c = search needs
 
--- src/put.rt:49:18
 add-effect : tie.Need-add-effect
 add-effect c = search needs
 
--- src/put.rt:50:20
 mul-row : tie.Need-mul-row
 mul-row c = search needs
 
--- src/put.rt:50:15
 mul-row-2 : tie.Need-mul-row-2
 mul-row-2 c =
     let a = c .before .before .before .before .args in
     omega (arith, row-le (a .n) (a .j) (omega arith) (omega arith))
 
--- src/put.rt:50:29
 mul-row-3 : tie.Need-mul-row-3
 mul-row-3 c = search needs
 
--- src/put.rt:50:15
 add-row : tie.Need-add-row
 add-row c =
     let a = c .before .before .before .before .args in
     omega (arith, row-le (a .n) (a .j) (omega arith) (omega arith))
 
--- src/put.rt:51:29
 place-requires : tie.Need-place-requires
 place-requires c κs = search needs
 
--- src/put.rt:51:5
 put-field-requires : tie.Need-put-field-requires
 put-field-requires c κs = search needs
 
--- src/put.rt:52:44
 add-place : tie.Need-add-place
 add-place c =
     let a = c .before .before .before .before .before .before .before .before .before .before .args in
     omega (arith, row-le (a .n) (a .j) (omega arith) (omega arith))
 
--- src/put.rt:52:31
 place-requires-2 : tie.Need-place-requires-2
 place-requires-2 c κs = search needs
 
--- src/put.rt:52:5
 put-field-requires-2 : tie.Need-put-field-requires-2
 put-field-requires-2 c κs = search needs
 
--- src/put.rt:44:1
 same-length : tie.Need-same-length
 same-length c = search needs
 
--- src/put.rt:44:1
 returns : tie.Need-returns
 unfolding packed marksPart marksIn
 returns c =

@@ -10,35 +10,27 @@ use Rattle.writing.proofs.put.put_columns.Reads as put-columns-reads
 use Rattle.writing.proofs.put.put_header.Reads as put-header-reads
 use Rattle.writing.proofs.put.put_steps.Reads as put-steps-reads
 
--- src/put.rt:81:5
 put-header-requires : tie.Need-put-header-requires
 put-header-requires c κs = search needs
 
--- src/put.rt:82:5
 put-columns-requires : tie.Need-put-columns-requires
 put-columns-requires c κs = search needs
 
--- src/put.rt:83:5
 put-steps-requires : tie.Need-put-steps-requires
 put-steps-requires c κs = search needs
 
--- src/put.rt:84:9
 model-bits-requires : tie.Need-model-bits-requires
 model-bits-requires c κs = search needs
 
--- src/put.rt:85:27
 sub-put-field : tie.Need-sub-put-field
 sub-put-field c = search needs
 
--- src/put.rt:85:5
 put-field-requires : tie.Need-put-field-requires
 put-field-requires c κs = search needs
 
--- src/put.rt:77:1
 same-length : tie.Need-same-length
 same-length c = search needs
 
--- src/put.rt:77:1
 returns : tie.Need-returns
 returns c =
     let a = c .before .before .before .before .before .before .before .before .before .before .before .before .before .before .before .before .before .before .before .before .before .args in

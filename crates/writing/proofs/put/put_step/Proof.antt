@@ -27,48 +27,38 @@ abbrev μ-loop : tie.MeasureT-loop
 μ-loop out₀ frame costs marks n j i₀ out i =
     n - i
 
--- src/put.rt:58:20
 model-bits-requires : tie.Need-model-bits-requires Inv-loop μ-loop
 model-bits-requires c κs = search needs
 
--- src/put.rt:58:42
 wide-place-requires : tie.Need-wide-place-requires Inv-loop μ-loop
 wide-place-requires c κs = search needs
 
--- src/put.rt:58:5
 put-field-requires : tie.Need-put-field-requires Inv-loop μ-loop
 put-field-requires c κs = search needs
 
--- src/put.rt:60:5
 loop-holds : tie.Need-loop-holds Inv-loop μ-loop
 loop-holds c =
     (omega arith, packed-none _ _ _)
 
--- src/put.rt:61:9
 put-marks-requires : tie.Need-put-marks-requires Inv-loop μ-loop
 put-marks-requires c κs = search needs
 
--- src/put.rt:62:9
 add-i : tie.Need-add-i Inv-loop μ-loop
 add-i c = search needs
 
--- src/put.rt:60:5
 loop-less : tie.Need-loop-less Inv-loop μ-loop
 loop-less c = search needs
 
--- src/put.rt:60:5
 loop-again : tie.Need-loop-again Inv-loop μ-loop
 loop-again c =
     let a = c .before .before .before .before .before .before .before .before .before .before .before .before .before .before .before .before .args in
     let l = c .before .before .before .before .before .loop in
     (omega arith, c .before .before .put-marks .ensures ∙ packed-more (marksPart (columnIn (a .frame .now)) (marksIn (a .marks .now) (a .n)) (a .j)) 12 (marks-bits (columnIn (a .frame .now)) (marksIn (a .marks .now) (a .n)) (a .j)) (modelBits (a .n) (a .j) + 16) (l .i) _ (l .inv .1))
 
--- src/put.rt:54:1
 same-length : tie.Need-same-length Inv-loop μ-loop
 same-length c =
     ap length (c .before .loop .inv .1) ∙ packed-length _ _ _ ∙ c .before .before .before .before .put-field .kept .0
 
--- src/put.rt:54:1
 returns : tie.Need-returns Inv-loop μ-loop
 unfolding packed stepPart
 returns c =

@@ -23,24 +23,19 @@ abbrev μ-loop : tie.MeasureT-loop
 μ-loop out₀ frame costs marks n m j₀ out j =
     m - j
 
--- src/put.rt:71:5
 loop-holds : tie.Need-loop-holds Inv-loop μ-loop
 loop-holds c =
     (omega arith, packed-none _ _ _)
 
--- src/put.rt:72:9
 put-step-requires : tie.Need-put-step-requires Inv-loop μ-loop
 put-step-requires c κs = search needs
 
--- src/put.rt:73:9
 add-j : tie.Need-add-j Inv-loop μ-loop
 add-j c = search needs
 
--- src/put.rt:71:5
 loop-less : tie.Need-loop-less Inv-loop μ-loop
 loop-less c = search needs
 
--- src/put.rt:71:5
 loop-again : tie.Need-loop-again Inv-loop μ-loop
 unfolding modelBits
 loop-again c =
@@ -48,12 +43,10 @@ loop-again c =
     let l = c .before .before .before .before .before .loop in
     (omega arith, c .before .before .put-step .ensures ∙ packed-more (stepPart (columnIn (a .frame .now)) (inTable (a .costs .now)) (marksIn (a .marks .now) (a .n)) (a .n)) (16 + a .n * 12) (step-bits (columnIn (a .frame .now)) (inTable (a .costs .now)) (marksIn (a .marks .now) (a .n)) (a .n)) (17 + a .n * 17) (l .j) (a .out .now) (l .inv .1))
 
--- src/put.rt:66:1
 same-length : tie.Need-same-length Inv-loop μ-loop
 same-length c =
     ap length (c .before .loop .inv .1) ∙ packed-length _ _ _
 
--- src/put.rt:66:1
 returns : tie.Need-returns Inv-loop μ-loop
 returns c =
     let l = c .before .loop in

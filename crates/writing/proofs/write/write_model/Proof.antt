@@ -12,44 +12,36 @@ use Rattle.sheets.proofs.model_bits.Reads as model-bits-reads
 use Rattle.writing.proofs.given.judge_given.Reads as judge-given-reads
 use Rattle.writing.proofs.put.put_sheet.Reads as put-sheet-reads
 
--- src/write.rt:19:9
 judge-given-requires : tie.Need-judge-given-requires
 judge-given-requires c κs = search needs
 
--- src/write.rt:21:9
 returns : tie.Need-returns
 returns c =
     let a = c .before .before .before .before .before .before .args in
     fields-refused (ofTables (a .columns) (a .steps) (a .frame .now) (a .costs .now) (a .marks .now)) (a .sheet .now) (c .before .judge-given .ensures) (c .if1 .taken)
 
--- src/write.rt:23:18
 model-bits-requires : tie.Need-model-bits-requires
 model-bits-requires c κs =
     let a = c .before .before .before .before .before .before .args in
     given-fine (a .columns) (a .steps) (a .frame .now) (a .costs .now) (a .marks .now) (sym (c .before .judge-given .ensures) ∙ c .if1 .left)
 
--- src/write.rt:23:18
 add-bytes : tie.Need-add-bytes
 add-bytes c = search needs
 
--- src/write.rt:25:9
 returns-2 : tie.Need-returns-2
 unfolding ofTables bytesFor
 returns-2 c =
     let a = c .before .before .before .before .before .before .before .before .args in
     room-refused (ofTables (a .columns) (a .steps) (a .frame .now) (a .costs .now) (a .marks .now)) (a .sheet .now) (c .before .before .before .judge-given .ensures) (c .before .before .if1 .left) (omega (arith, c .before .model-bits .ensures .0))
 
--- src/write.rt:27:5
 put-sheet-requires : tie.Need-put-sheet-requires
 put-sheet-requires c κs =
     let a = c .before .before .before .before .before .before .before .before .before .args in
     given-fine (a .columns) (a .steps) (a .frame .now) (a .costs .now) (a .marks .now) (sym (c .before .before .before .before .judge-given .ensures) ∙ c .before .before .before .if1 .left)
 
--- src/write.rt:16:1
 same-length : tie.Need-same-length
 same-length c = search needs
 
--- src/write.rt:16:1
 returns-3 : tie.Need-returns-3
 unfolding ofTables bytesFor
 returns-3 c =
