@@ -27,10 +27,12 @@ slice-aggregate-fill-distances : tie.Need-slice-aggregate-fill-distances
 slice-aggregate-fill-distances c = search needs
 
 fill-distances-requires : tie.Need-fill-distances-requires
-fill-distances-requires c κs = let m = c .before .before .before .before .before .before .before .before .before .before .before .before .args .model in
-    let v = c .before .before .before .before .before .before .before .before .before .before .before .before .pre .0 in
+fill-distances-requires c κs =
+    let p = c .before .before .before .before .before .before .before .before .before .before .before .before .pre in
+    let m = c .before .before .before .before .before .before .before .before .before .before .before .before .args .model in
+    let v = p .0 in
     let l : length (m .cost) ≡ 128 = search needs in
-    (omega (arith, v .columns .1, columns-of m), omega (arith, v .steps, steps-of m), omega (arith, l, v .steps, steps-of m), c .before .before .before .before .before .before .before .before .before .before .before .before .pre .1, c .before .before .before .before .before .before .before .before .before .before .before .before .pre .2)
+    (omega (arith, v .columns .1, columns-of m), omega (arith, v .steps, steps-of m), omega (arith, l, v .steps, steps-of m), p .1, p .2)
 
 returns : tie.Need-returns
 returns c = let m = c .before .before .before .before .before .before .before .before .before .before .before .before .before .args .model in

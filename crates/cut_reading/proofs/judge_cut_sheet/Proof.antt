@@ -32,18 +32,27 @@ fill-first-requires : tie.Need-fill-first-requires
 fill-first-requires c κs = (given-accepted (c .before .before .before .before .before .before .before .before .before .before .args .model .now) (c .before .before .before .before .before .before .before .unpack-model .ensures) (c .before .before .before .before .before .before .if1 .left), c .before .before .before .before .before .before .before .before .before .before .pre)
 
 sub-judge-cut-part : tie.Need-sub-judge-cut-part
-sub-judge-cut-part c = front-take (c .before .before .before .before .before .before .before .before .before .before .before .args .model .now) (c .before .before .before .before .before .before .before .before .before .before .before .args .sheet .now) (sym (c .before .before .before .before .at-front .ensures) ∙ not-false (c .before .before .before .before .at-front .result) (c .before .before .before .if3 .left)) .0
+sub-judge-cut-part c =
+    let g = c .before .before .before .before .before .before .before .before .before .before .before .args in
+    front-take (g .model .now) (g .sheet .now) (sym (c .before .before .before .before .at-front .ensures) ∙ not-false (c .before .before .before .before .at-front .result) (c .before .before .before .if3 .left)) .0
 
 part-judge-cut-part-start : tie.Need-part-judge-cut-part-start
-part-judge-cut-part-start c = let h = front-take (c .before .before .before .before .before .before .before .before .before .before .before .args .model .now) (c .before .before .before .before .before .before .before .before .before .before .before .args .sheet .now) (sym (c .before .before .before .before .at-front .ensures) ∙ not-false (c .before .before .before .before .at-front .result) (c .before .before .before .if3 .left)) .0 in
+part-judge-cut-part-start c =
+    let g = c .before .before .before .before .before .before .before .before .before .before .before .args in
+    let h = front-take (g .model .now) (g .sheet .now) (sym (c .before .before .before .before .at-front .ensures) ∙ not-false (c .before .before .before .before .at-front .result) (c .before .before .before .if3 .left)) .0 in
     search needs
 
 part-judge-cut-part-end : tie.Need-part-judge-cut-part-end
-part-judge-cut-part-end c = let h = front-take (c .before .before .before .before .before .before .before .before .before .before .before .args .model .now) (c .before .before .before .before .before .before .before .before .before .before .before .args .sheet .now) (sym (c .before .before .before .before .at-front .ensures) ∙ not-false (c .before .before .before .before .at-front .result) (c .before .before .before .if3 .left)) .0 in
+part-judge-cut-part-end c =
+    let g = c .before .before .before .before .before .before .before .before .before .before .before .args in
+    let h = front-take (g .model .now) (g .sheet .now) (sym (c .before .before .before .before .at-front .ensures) ∙ not-false (c .before .before .before .before .at-front .result) (c .before .before .before .if3 .left)) .0 in
     search needs
 
 judge-cut-part-requires : tie.Need-judge-cut-part-requires
-judge-cut-part-requires c κs = (few-columns (c .before .before .before .before .before .before .before .before .before .before .before .before .before .args .model .now) (c .before .before .before .before .before .before .before .before .before .before .unpack-model .ensures) (c .before .before .before .before .before .before .before .before .before .if1 .left), first-long (c .before .before .before .before .before .before .before .before .before .before .before .before .before .args .model .now) (c .before .before .before .before .before .before .before .before .before .before .unpack-model .ensures) (c .before .before .before .before .before .before .before .before .before .if1 .left) (c .before .before .before .before .before .before .before .before .before .before .before .before .before .args .sets .now) (c .before .before .before .before .before .before .before .before .before .before .before .before .before .pre) (c .before .before .fill-first .ensures))
+judge-cut-part-requires c κs =
+    let g = c .before .before .before .before .before .before .before .before .before .before .before .before .before .args in
+    let u = c .before .before .before .before .before .before .before .before .before .before .unpack-model .ensures in
+    (few-columns (g .model .now) u (c .before .before .before .before .before .before .before .before .before .if1 .left), first-long (g .model .now) u (c .before .before .before .before .before .before .before .before .before .if1 .left) (g .sets .now) (c .before .before .before .before .before .before .before .before .before .before .before .before .before .pre) (c .before .before .fill-first .ensures))
 
 returns-4 : tie.Need-returns-4
 returns-4 c = let g = c .before .before .before .before .before .before .before .before .before .before .before .before .before .before .args in

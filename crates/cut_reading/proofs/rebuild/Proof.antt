@@ -9,17 +9,25 @@ judge-cut-sheet-requires : tie.Need-judge-cut-sheet-requires
 judge-cut-sheet-requires c κs = search needs
 
 returns : tie.Need-returns
-returns c = sheets-refused (c .before .before .before .before .before .before .args .model .now) (c .before .before .before .before .before .before .args .sheet .now) (c .before .before .before .before .before .before .args .cuts .now) (c .before .judge-cut-sheet .ensures) (c .if1 .taken)
+returns c =
+    let g = c .before .before .before .before .before .before .args in
+    sheets-refused (g .model .now) (g .sheet .now) (g .cuts .now) (c .before .judge-cut-sheet .ensures) (c .if1 .taken)
 
 sub-part : tie.Need-sub-part
-sub-part c = start-within (c .before .before .before .before .before .before .args .model .now) (c .before .before .before .before .before .before .args .sheet .now) (c .before .before .before .before .before .before .args .cuts .now) (c .before .judge-cut-sheet .ensures) (c .if1 .left)
+sub-part c =
+    let g = c .before .before .before .before .before .before .args in
+    start-within (g .model .now) (g .sheet .now) (g .cuts .now) (c .before .judge-cut-sheet .ensures) (c .if1 .left)
 
 part-part-start : tie.Need-part-part-start
-part-part-start c = let h = start-within (c .before .before .before .before .before .before .args .model .now) (c .before .before .before .before .before .before .args .sheet .now) (c .before .before .before .before .before .before .args .cuts .now) (c .before .judge-cut-sheet .ensures) (c .if1 .left) in
+part-part-start c =
+    let g = c .before .before .before .before .before .before .args in
+    let h = start-within (g .model .now) (g .sheet .now) (g .cuts .now) (c .before .judge-cut-sheet .ensures) (c .if1 .left) in
     search needs
 
 part-part-end : tie.Need-part-part-end
-part-part-end c = let h = start-within (c .before .before .before .before .before .before .args .model .now) (c .before .before .before .before .before .before .args .sheet .now) (c .before .before .before .before .before .before .args .cuts .now) (c .before .judge-cut-sheet .ensures) (c .if1 .left) in
+part-part-end c =
+    let g = c .before .before .before .before .before .before .args in
+    let h = start-within (g .model .now) (g .sheet .now) (g .cuts .now) (c .before .judge-cut-sheet .ensures) (c .if1 .left) in
     search needs
 
 field-requires : tie.Need-field-requires

@@ -26,23 +26,30 @@ judge-lent-cut-requires : tie.Need-judge-lent-cut-requires Inv-loop μ-loop
 judge-lent-cut-requires c κs = search needs
 
 returns : tie.Need-returns Inv-loop μ-loop
-returns c = let g = c .before .before .before .before .before .before .args in
-    λ t e m. going-stop t (cutLent (g .cuts .now)) (c .before .before .before .before .loop .sets) (c .before .before .before .before .loop .sets) (g .columns) (c .before .before .before .before .loop .i) (g .count) (c .before .before .before .loop-test .taken) (c .before .before .before .before .loop .inv .1 t e m)
-    (c .before .judge-lent-cut .ensures .1 t e (c .before .before .before .before .loop .inv .1 t e m .made)) (c .if1 .taken)
+returns c =
+    let l = c .before .before .before .before .loop in
+    let g = c .before .before .before .before .before .before .args in
+    λ t e m. going-stop t (cutLent (g .cuts .now)) (l .sets) (l .sets) (g .columns) (l .i) (g .count) (c .before .before .before .loop-test .taken) (l .inv .1 t e m)
+    (c .before .judge-lent-cut .ensures .1 t e (l .inv .1 t e m .made)) (c .if1 .taken)
 
 add-make-cut : tie.Need-add-make-cut Inv-loop μ-loop
 add-make-cut c = search needs
 
 lent-cut-requires : tie.Need-lent-cut-requires Inv-loop μ-loop
 unfolding cutNamed cutLent
-lent-cut-requires c κs = let j = c .before .judge-lent-cut .ensures .0 in
+lent-cut-requires c κs =
+    let p = c .before .before .before .before .before .before .pre in
+    let j = c .before .judge-lent-cut .ensures .0 in
     let z = c .if1 .left in
-    (omega (arith, c .before .before .before .before .before .before .pre .0), j .place z, omega (arith, j .cut .block z, c .before .before .before .before .before .before .pre .0), omega (arith, j .cut .column z, c .before .before .before .before .before .before .pre .1))
+    (omega (arith, p .0), j .place z, omega (arith, j .cut .block z, p .0), omega (arith, j .cut .column z, p .1))
 
 make-cut-requires : tie.Need-make-cut-requires Inv-loop μ-loop
-make-cut-requires c κs = let g = c .before .before .before .before .before .before .before .before .args in
-    let h = there (cutLent (g .cuts .now)) (c .before .before .before .before .before .before .loop .sets) (g .columns) (c .before .before .before .before .before .before .loop .i) (c .before .before .before .before .before .before .before .before .pre .1) (omega (arith, c .before .before .before .before .before .before .before .before .pre .0)) (c .before .before .before .before .before .before .loop .inv .0 .1) (c .before .lent-cut .ensures) (c .before .before .if1 .left) (c .before .before .before .judge-lent-cut .ensures .0 .cut) in
-    (c .before .before .before .before .before .before .before .before .pre .1, omega (arith, c .before .before .before .before .before .before .before .before .pre .0), h .0, h .1, c .before .before .before .before .before .before .loop .inv .0 .1)
+make-cut-requires c κs =
+    let p = c .before .before .before .before .before .before .before .before .pre in
+    let l = c .before .before .before .before .before .before .loop in
+    let g = c .before .before .before .before .before .before .before .before .args in
+    let h = there (cutLent (g .cuts .now)) (l .sets) (g .columns) (l .i) (p .1) (omega (arith, p .0)) (l .inv .0 .1) (c .before .lent-cut .ensures) (c .before .before .if1 .left) (c .before .before .before .judge-lent-cut .ensures .0 .cut) in
+    (p .1, omega (arith, p .0), h .0, h .1, l .inv .0 .1)
 
 add-i : tie.Need-add-i Inv-loop μ-loop
 add-i c = search needs
@@ -51,13 +58,16 @@ loop-less : tie.Need-loop-less Inv-loop μ-loop
 loop-less c = search needs
 
 loop-again : tie.Need-loop-again Inv-loop μ-loop
-loop-again c = let g = c .before .before .before .before .before .before .before .before .before .args in
+loop-again c =
+    let p = c .before .before .before .before .before .before .before .before .before .pre in
+    let j = c .before .before .before .before .judge-lent-cut .ensures in
+    let g = c .before .before .before .before .before .before .before .before .before .args in
     let l = c .before .before .before .before .before .before .before .loop in
-    let room : l .i < 255 = omega (arith, c .before .before .before .before .before .before .before .before .before .pre .0) in (
-      (search needs, ap length (c .make-cut .ensures) ∙ more-long (cutLent (g .cuts .now)) (l .sets) (g .columns) (l .i) (c .before .before .before .before .before .before .before .before .before .pre .1) room (l .inv .0 .1) (c .before .before .lent-cut .ensures) (c .before .before .before .if1 .left) (c .before .before .before .before .judge-lent-cut .ensures .0 .cut)),
+    let room : l .i < 255 = omega (arith, p .0) in (
+      (search needs, ap length (c .make-cut .ensures) ∙ more-long (cutLent (g .cuts .now)) (l .sets) (g .columns) (l .i) (p .1) room (l .inv .0 .1) (c .before .before .lent-cut .ensures) (c .before .before .before .if1 .left) (j .0 .cut)),
       λ t e m.
-          going-on t (cutLent (g .cuts .now)) (l .sets) (g .columns) (l .i) (c .before .before .before .before .before .before .before .before .before .pre .1) room (l .inv .0 .1) (c .before .before .lent-cut .ensures) (c .before .before .before .if1 .left) (c .before .before .before .before .judge-lent-cut .ensures .0 .cut)
-          (c .before .before .before .before .judge-lent-cut .ensures .1 t e (l .inv .1 t e m .made)) (c .make-cut .ensures) (l .inv .1 t e m),
+          going-on t (cutLent (g .cuts .now)) (l .sets) (g .columns) (l .i) (p .1) room (l .inv .0 .1) (c .before .before .lent-cut .ensures) (c .before .before .before .if1 .left) (j .0 .cut)
+          (j .1 t e (l .inv .1 t e m .made)) (c .make-cut .ensures) (l .inv .1 t e m),
     )
 
 returns-2 : tie.Need-returns-2 Inv-loop μ-loop

@@ -17,13 +17,19 @@ returns c = let g = c .before .before .before .before .before .args in
     given-refused (g .model .now) (g .count) (g .cuts .now) (g .sheet .now) (c .before .judge-given .ensures) (c .if1 .taken)
 
 mul-bytes : tie.Need-mul-bytes
-mul-bytes c = let p = given-places (taskOn (c .before .before .before .before .before .args .model .now)) (c .before .before .before .before .before .args .count) (c .before .before .before .before .before .args .cuts .now) (given-ok (c .before .before .before .before .before .args .model .now) (c .before .before .before .before .before .args .count) (c .before .before .before .before .before .args .cuts .now) (sym (c .before .judge-given .ensures) ∙ c .if1 .left) .1) in omega (arith, p .0)
+mul-bytes c =
+    let g = c .before .before .before .before .before .args in
+    let p = given-places (taskOn (g .model .now)) (g .count) (g .cuts .now) (given-ok (g .model .now) (g .count) (g .cuts .now) (sym (c .before .judge-given .ensures) ∙ c .if1 .left) .1) in omega (arith, p .0)
 
 add-bytes : tie.Need-add-bytes
-add-bytes c = let p = given-places (taskOn (c .before .before .before .before .before .args .model .now)) (c .before .before .before .before .before .args .count) (c .before .before .before .before .before .args .cuts .now) (given-ok (c .before .before .before .before .before .args .model .now) (c .before .before .before .before .before .args .count) (c .before .before .before .before .before .args .cuts .now) (sym (c .before .judge-given .ensures) ∙ c .if1 .left) .1) in omega (arith, p .0)
+add-bytes c =
+    let g = c .before .before .before .before .before .args in
+    let p = given-places (taskOn (g .model .now)) (g .count) (g .cuts .now) (given-ok (g .model .now) (g .count) (g .cuts .now) (sym (c .before .judge-given .ensures) ∙ c .if1 .left) .1) in omega (arith, p .0)
 
 add-bytes-2 : tie.Need-add-bytes-2
-add-bytes-2 c = let p = given-places (taskOn (c .before .before .before .before .before .args .model .now)) (c .before .before .before .before .before .args .count) (c .before .before .before .before .before .args .cuts .now) (given-ok (c .before .before .before .before .before .args .model .now) (c .before .before .before .before .before .args .count) (c .before .before .before .before .before .args .cuts .now) (sym (c .before .judge-given .ensures) ∙ c .if1 .left) .1) in omega (arith, p .0)
+add-bytes-2 c =
+    let g = c .before .before .before .before .before .args in
+    let p = given-places (taskOn (g .model .now)) (g .count) (g .cuts .now) (given-ok (g .model .now) (g .count) (g .cuts .now) (sym (c .before .judge-given .ensures) ∙ c .if1 .left) .1) in omega (arith, p .0)
 
 returns-2 : tie.Need-returns-2
 unfolding cutBits bytesFor
@@ -51,7 +57,9 @@ part-put-cut-part-end : tie.Need-part-put-cut-part-end
 part-put-cut-part-end c = search needs
 
 put-cut-part-requires : tie.Need-put-cut-part-requires
-put-cut-part-requires c κs = given-places (taskOn (c .before .before .before .before .before .before .before .before .before .before .before .before .args .model .now)) (c .before .before .before .before .before .before .before .before .before .before .before .before .args .count) (c .before .before .before .before .before .before .before .before .before .before .before .before .args .cuts .now) (given-ok (c .before .before .before .before .before .before .before .before .before .before .before .before .args .model .now) (c .before .before .before .before .before .before .before .before .before .before .before .before .args .count) (c .before .before .before .before .before .before .before .before .before .before .before .before .args .cuts .now) (sym (c .before .before .before .before .before .before .before .before .judge-given .ensures) ∙ c .before .before .before .before .before .before .before .if1 .left) .1)
+put-cut-part-requires c κs =
+    let g = c .before .before .before .before .before .before .before .before .before .before .before .before .args in
+    given-places (taskOn (g .model .now)) (g .count) (g .cuts .now) (given-ok (g .model .now) (g .count) (g .cuts .now) (sym (c .before .before .before .before .before .before .before .before .judge-given .ensures) ∙ c .before .before .before .before .before .before .before .if1 .left) .1)
 
 add-t10 : tie.Need-add-t10
 add-t10 c = search needs

@@ -31,13 +31,18 @@ slice-aggregate-put-labelled-3 : tie.Need-slice-aggregate-put-labelled-3
 slice-aggregate-put-labelled-3 c = search needs
 
 put-labelled-requires-3 : tie.Need-put-labelled-requires-3
-put-labelled-requires-3 c κs = omega (arith, c .before .before .before .before .before .before .before .before .before .before .before .before .before .before .before .before .pre .1, labelled-most planText _ (c .before .before .before .before .before .before .before .before .before .put-labelled .ensures), same-long (c .before .before .before .before .before .before .before .before .before .put-labelled .ensures), labelled-most stepsText _ (c .before .before .before .before .put-labelled2 .ensures), same-long (c .before .before .before .before .put-labelled2 .ensures))
+put-labelled-requires-3 c κs =
+    let x = c .before .before .before .before .before .before .before .before .before .put-labelled .ensures in
+    omega (arith, c .before .before .before .before .before .before .before .before .before .before .before .before .before .before .before .before .pre .1, labelled-most planText _ x, same-long x, labelled-most stepsText _ (c .before .before .before .before .put-labelled2 .ensures), same-long (c .before .before .before .before .put-labelled2 .ensures))
 
 slice-aggregate-put-text : tie.Need-slice-aggregate-put-text
 slice-aggregate-put-text c = search needs
 
 put-text-requires : tie.Need-put-text-requires
-put-text-requires c κs = omega (arith, c .before .before .before .before .before .before .before .before .before .before .before .before .before .before .before .before .before .before .before .before .before .pre .1, labelled-most planText _ (c .before .before .before .before .before .before .before .before .before .before .before .before .before .before .put-labelled .ensures), same-long (c .before .before .before .before .before .before .before .before .before .before .before .before .before .before .put-labelled .ensures), labelled-most stepsText _ (c .before .before .before .before .before .before .before .before .before .put-labelled2 .ensures), same-long (c .before .before .before .before .before .before .before .before .before .put-labelled2 .ensures), labelled-most blocksText _ (c .before .before .before .before .put-labelled3 .ensures), same-long (c .before .before .before .before .put-labelled3 .ensures))
+put-text-requires c κs =
+    let x = c .before .before .before .before .before .before .before .before .before .before .before .before .before .before .put-labelled .ensures in
+    let y = c .before .before .before .before .before .before .before .before .before .put-labelled2 .ensures in
+    omega (arith, c .before .before .before .before .before .before .before .before .before .before .before .before .before .before .before .before .before .before .before .before .before .pre .1, labelled-most planText _ x, same-long x, labelled-most stepsText _ y, same-long y, labelled-most blocksText _ (c .before .before .before .before .put-labelled3 .ensures), same-long (c .before .before .before .before .put-labelled3 .ensures))
 
 enum-known-answer-2 : tie.Need-enum-known-answer-2
 enum-known-answer-2 c = search needs
@@ -76,7 +81,9 @@ slice-aggregate-put-text-3 : tie.Need-slice-aggregate-put-text-3
 slice-aggregate-put-text-3 c = search needs
 
 put-text-requires-3 : tie.Need-put-text-requires-3
-put-text-requires-3 c κs = omega (arith, c .before .before .before .before .before .before .before .before .before .before .before .before .before .before .before .before .pre .1, labelled-most openText _ (c .before .before .before .before .before .before .before .before .before .put-labelled5 .ensures), same-long (c .before .before .before .before .before .before .before .before .before .put-labelled5 .ensures), labelled-most blocksText _ (c .before .before .before .before .put-labelled6 .ensures), same-long (c .before .before .before .before .put-labelled6 .ensures))
+put-text-requires-3 c κs =
+    let p = c .before .before .before .before .before .before .before .before .before .put-labelled5 .ensures in
+    omega (arith, c .before .before .before .before .before .before .before .before .before .before .before .before .before .before .before .before .pre .1, labelled-most openText _ p, same-long p, labelled-most blocksText _ (c .before .before .before .before .put-labelled6 .ensures), same-long (c .before .before .before .before .put-labelled6 .ensures))
 
 enum-known-answer-4 : tie.Need-enum-known-answer-4
 enum-known-answer-4 c = search needs

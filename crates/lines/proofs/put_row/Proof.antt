@@ -51,7 +51,9 @@ wide-requires-2 : tie.Need-wide-requires-2
 wide-requires-2 c κs = search needs
 
 put-labelled-requires-2 : tie.Need-put-labelled-requires-2
-put-labelled-requires-2 c κs = omega (arith, c .before .before .before .before .before .before .before .before .before .before .before .before .before .before .before .before .before .pre .2, decimal-most _ (c .before .before .before .before .before .before .before .before .before .before .before .before .before .put-number .ensures), same-long (c .before .before .before .before .before .before .before .before .before .before .before .before .before .put-number .ensures), labelled-most space _ (c .before .before .before .before .before .before .put-labelled .ensures), same-long (c .before .before .before .before .before .before .put-labelled .ensures))
+put-labelled-requires-2 c κs =
+    let n = c .before .before .before .before .before .before .before .before .before .before .before .before .before .put-number .ensures in
+    omega (arith, c .before .before .before .before .before .before .before .before .before .before .before .before .before .before .before .before .before .pre .2, decimal-most _ n, same-long n, labelled-most space _ (c .before .before .before .before .before .before .put-labelled .ensures), same-long (c .before .before .before .before .before .before .put-labelled .ensures))
 
 slice-aggregate-put-labelled-3 : tie.Need-slice-aggregate-put-labelled-3
 slice-aggregate-put-labelled-3 c = search needs
@@ -69,21 +71,33 @@ wide-requires-3 : tie.Need-wide-requires-3
 wide-requires-3 c κs = search needs
 
 put-labelled-requires-3 : tie.Need-put-labelled-requires-3
-put-labelled-requires-3 c κs = omega (arith, c .before .before .before .before .before .before .before .before .before .before .before .before .before .before .before .before .before .before .before .before .before .before .before .before .pre .2, decimal-most _ (c .before .before .before .before .before .before .before .before .before .before .before .before .before .before .before .before .before .before .before .before .put-number .ensures), same-long (c .before .before .before .before .before .before .before .before .before .before .before .before .before .before .before .before .before .before .before .before .put-number .ensures), labelled-most space _ (c .before .before .before .before .before .before .before .before .before .before .before .before .before .put-labelled .ensures), same-long (c .before .before .before .before .before .before .before .before .before .before .before .before .before .put-labelled .ensures), labelled-most space _ (c .before .before .before .before .before .before .put-labelled2 .ensures), same-long (c .before .before .before .before .before .before .put-labelled2 .ensures))
+put-labelled-requires-3 c κs =
+    let n = c .before .before .before .before .before .before .before .before .before .before .before .before .before .before .before .before .before .before .before .before .put-number .ensures in
+    let x = c .before .before .before .before .before .before .before .before .before .before .before .before .before .put-labelled .ensures in
+    omega (arith, c .before .before .before .before .before .before .before .before .before .before .before .before .before .before .before .before .before .before .before .before .before .before .before .before .pre .2, decimal-most _ n, same-long n, labelled-most space _ x, same-long x, labelled-most space _ (c .before .before .before .before .before .before .put-labelled2 .ensures), same-long (c .before .before .before .before .before .before .put-labelled2 .ensures))
 
 slice-aggregate-put-text : tie.Need-slice-aggregate-put-text
 slice-aggregate-put-text c = search needs
 
 put-text-requires : tie.Need-put-text-requires
-put-text-requires c κs = omega (arith, c .before .before .before .before .before .before .before .before .before .before .before .before .before .before .before .before .before .before .before .before .before .before .before .before .before .before .before .before .before .pre .2, decimal-most _ (c .before .before .before .before .before .before .before .before .before .before .before .before .before .before .before .before .before .before .before .before .before .before .before .before .before .put-number .ensures), same-long (c .before .before .before .before .before .before .before .before .before .before .before .before .before .before .before .before .before .before .before .before .before .before .before .before .before .put-number .ensures), labelled-most space _ (c .before .before .before .before .before .before .before .before .before .before .before .before .before .before .before .before .before .before .put-labelled .ensures), same-long (c .before .before .before .before .before .before .before .before .before .before .before .before .before .before .before .before .before .before .put-labelled .ensures), labelled-most space _ (c .before .before .before .before .before .before .before .before .before .before .before .put-labelled2 .ensures), same-long (c .before .before .before .before .before .before .before .before .before .before .before .put-labelled2 .ensures), labelled-most space _ (c .before .before .before .before .put-labelled3 .ensures), same-long (c .before .before .before .before .put-labelled3 .ensures))
+put-text-requires c κs =
+    let n = c .before .before .before .before .before .before .before .before .before .before .before .before .before .before .before .before .before .before .before .before .before .before .before .before .before .put-number .ensures in
+    let x = c .before .before .before .before .before .before .before .before .before .before .before .before .before .before .before .before .before .before .put-labelled .ensures in
+    let y = c .before .before .before .before .before .before .before .before .before .before .before .put-labelled2 .ensures in
+    omega (arith, c .before .before .before .before .before .before .before .before .before .before .before .before .before .before .before .before .before .before .before .before .before .before .before .before .before .before .before .before .before .pre .2, decimal-most _ n, same-long n, labelled-most space _ x, same-long x, labelled-most space _ y, same-long y, labelled-most space _ (c .before .before .before .before .put-labelled3 .ensures), same-long (c .before .before .before .before .put-labelled3 .ensures))
 
 same-length : tie.Need-same-length
 same-length c = search needs
 
 returns : tie.Need-returns
 returns c =
-    row-joined (c .before .before .before .before .before .before .before .before .before .before .before .before .before .before .before .before .before .before .before .before .before .before .before .before .before .before .before .before .before .before .before .before .args .list .now) (c .before .before .before .before .before .before .before .before .before .before .before .before .before .before .before .before .before .before .before .before .before .before .before .before .before .before .before .before .before .before .before .before .args .i) _ _ _ (c .before .before .before .before .before .before .before .before .before .before .before .before .before .before .before .before .before .before .before .before .before .before .before .wide .ensures) (c .before .before .before .before .before .before .before .before .before .before .before .before .before .before .before .before .wide2 .ensures) (c .before .before .before .before .before .before .before .before .before .wide3 .ensures) (c .before .before .before .before .before .before .before .before .before .before .before .before .before .before .before .before .before .before .before .before .before .before .before .before .before .before .before .before .put-number .ensures) (c .before .before .before .before .before .before .before .before .before .before .before .before .before .before .before .before .before .before .before .before .before .put-labelled .ensures)
-    (c .before .before .before .before .before .before .before .before .before .before .before .before .before .before .put-labelled2 .ensures) (c .before .before .before .before .before .before .before .put-labelled3 .ensures) (c .before .before .put-text .ensures)
+    let z = c .before .before .before .before .before .before .before in
+    let y = z .before .before .before .before .before .before .before in
+    let x = y .before .before .before .before .before .before .before in
+    let n = x .before .before .before .before .before .before .before in
+    let g = n .before .before .before .before .args in
+    row-joined (g .list .now) (g .i) _ _ _ (x .before .before .wide .ensures) (y .before .before .wide2 .ensures) (z .before .before .wide3 .ensures)
+    (n .put-number .ensures) (x .put-labelled .ensures) (y .put-labelled2 .ensures) (z .put-labelled3 .ensures) (c .before .before .put-text .ensures)
 
 pub put-row-spec : {M : Type 1} → statement M
 put-row-spec =

@@ -15,13 +15,22 @@ run-requires : tie.Need-run-requires
 run-requires c κs = search needs
 
 put-first-line-requires : tie.Need-put-first-line-requires
-put-first-line-requires c κs = (counted (c .before .before .before .before .before .before .before .before .before .before .before .before .args .sheet .now) (c .before .before .before .before .before .before .before .before .before .before .before .before .args .room) (c .before .before .before .before .before .before .before .before .before .before .before .before .args .cuts .now) (c .before .before .before .before .before .before .before .before .before .before .before .before .args .rows .now) (c .before .before .before .before .before .before .before .before .before .before .before .before .pre .0, c .before .before .before .before .before .before .before .before .before .before .before .before .pre .1) (c .before .before .before .before .before .run .ensures), omega (arith, c .before .before .before .before .before .before .before .before .before .before .before .before .pre .2))
+put-first-line-requires c κs =
+    let g = c .before .before .before .before .before .before .before .before .before .before .before .before .args in
+    let p = c .before .before .before .before .before .before .before .before .before .before .before .before .pre in
+    (counted (g .sheet .now) (g .room) (g .cuts .now) (g .rows .now) (p .0, p .1) (c .before .before .before .before .before .run .ensures), omega (arith, p .2))
 
 row-values-requires : tie.Need-row-values-requires
-row-values-requires c κs = counted (c .before .before .before .before .before .before .before .before .before .before .before .before .before .before .before .args .sheet .now) (c .before .before .before .before .before .before .before .before .before .before .before .before .before .before .before .args .room) (c .before .before .before .before .before .before .before .before .before .before .before .before .before .before .before .args .cuts .now) (c .before .before .before .before .before .before .before .before .before .before .before .before .before .before .before .args .rows .now) (c .before .before .before .before .before .before .before .before .before .before .before .before .before .before .before .pre .0, c .before .before .before .before .before .before .before .before .before .before .before .before .before .before .before .pre .1) (c .before .before .before .before .before .before .before .before .run .ensures)
+row-values-requires c κs =
+    let g = c .before .before .before .before .before .before .before .before .before .before .before .before .before .before .before .args in
+    let p = c .before .before .before .before .before .before .before .before .before .before .before .before .before .before .before .pre in
+    counted (g .sheet .now) (g .room) (g .cuts .now) (g .rows .now) (p .0, p .1) (c .before .before .before .before .before .before .before .before .run .ensures)
 
 put-rows-requires : tie.Need-put-rows-requires
-put-rows-requires c κs = rows-go (c .before .before .before .before .before .before .before .before .before .before .before .before .before .before .before .before .before .before .args .sheet .now) (c .before .before .before .before .before .before .before .before .before .before .before .before .before .before .before .before .before .before .args .room) (c .before .before .before .before .before .before .before .before .before .before .before .before .before .before .before .before .before .before .args .cuts .now) (c .before .before .before .before .before .before .before .before .before .before .before .before .before .before .before .before .before .before .args .rows .now) (c .before .before .before .before .before .before .before .before .before .before .before .before .before .before .before .before .before .before .pre .0, c .before .before .before .before .before .before .before .before .before .before .before .before .before .before .before .before .before .before .pre .1) (c .before .before .before .before .before .before .before .before .before .before .before .run .ensures) (c .before .before .row-values .ensures) refl (c .before .before .before .before .before .before .before .before .before .before .before .before .before .before .before .before .before .before .pre .2) (c .before .before .before .before .before .put-first-line .ensures)
+put-rows-requires c κs =
+    let g = c .before .before .before .before .before .before .before .before .before .before .before .before .before .before .before .before .before .before .args in
+    let p = c .before .before .before .before .before .before .before .before .before .before .before .before .before .before .before .before .before .before .pre in
+    rows-go (g .sheet .now) (g .room) (g .cuts .now) (g .rows .now) (p .0, p .1) (c .before .before .before .before .before .before .before .before .before .before .before .run .ensures) (c .before .before .row-values .ensures) refl (p .2) (c .before .before .before .before .before .put-first-line .ensures)
 
 same-length : tie.Need-same-length
 same-length c = search needs
@@ -33,7 +42,10 @@ same-length-3 : tie.Need-same-length-3
 same-length-3 c = search needs
 
 returns : tie.Need-returns
-returns c = lines-put (c .before .before .before .before .before .before .before .before .before .before .before .before .before .before .before .before .before .before .before .before .before .args .sheet .now) (c .before .before .before .before .before .before .before .before .before .before .before .before .before .before .before .before .before .before .before .before .before .args .room) (c .before .before .before .before .before .before .before .before .before .before .before .before .before .before .before .before .before .before .before .before .before .args .cuts .now) (c .before .before .before .before .before .before .before .before .before .before .before .before .before .before .before .before .before .before .before .before .before .args .rows .now) (c .before .before .before .before .before .before .before .before .before .before .before .before .before .before .before .before .before .before .before .before .before .pre .0, c .before .before .before .before .before .before .before .before .before .before .before .before .before .before .before .before .before .before .before .before .before .pre .1) (c .before .before .before .before .before .before .before .before .before .before .before .before .before .before .run .ensures) (c .before .before .before .before .before .row-values .ensures) refl (c .before .before .before .before .before .before .before .before .put-first-line .ensures) (c .before .before .put-rows .ensures)
+returns c =
+    let g = c .before .before .before .before .before .before .before .before .before .before .before .before .before .before .before .before .before .before .before .before .before .args in
+    let p = c .before .before .before .before .before .before .before .before .before .before .before .before .before .before .before .before .before .before .before .before .before .pre in
+    lines-put (g .sheet .now) (g .room) (g .cuts .now) (g .rows .now) (p .0, p .1) (c .before .before .before .before .before .before .before .before .before .before .before .before .before .before .run .ensures) (c .before .before .before .before .before .row-values .ensures) refl (c .before .before .before .before .before .before .before .before .put-first-line .ensures) (c .before .before .put-rows .ensures)
 
 pub put-run-spec : {M : Type 1} → statement M
 put-run-spec =

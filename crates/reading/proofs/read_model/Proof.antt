@@ -54,16 +54,18 @@ fill-frame-requires c κs =
 
 fill-costs-requires : tie.Need-fill-costs-requires
 fill-costs-requires c κs =
+    let j = c .before .before .before .before .before .before .before .before .before .before .judge-sheet .ensures in
     let a = c .before .before .before .before .before .before .before .before .before .before .before .before .before .before .before .args in
-    let h = part-fine (a .sheet .now) (sheet-fine (a .sheet .now) (sym (c .before .before .before .before .before .before .before .before .before .before .judge-sheet .ensures) ∙ c .before .before .before .before .before .before .before .before .before .if1 .left) .0) in
-    let e = enough (a .sheet .now) (a .frame .now) (a .costs .now) (a .marks .now) (sym (c .before .before .before .before .before .before .before .before .before .before .judge-sheet .ensures) ∙ c .before .before .before .before .before .before .before .before .before .if1 .left) (c .before .before .before .before .before .before .before .before .field .ensures) (c .before .before .before .before .before .before .before .field2 .ensures) (c .before .before .before .before .before .before .judge-places .ensures) (c .before .before .before .before .before .if2 .left) in
+    let h = part-fine (a .sheet .now) (sheet-fine (a .sheet .now) (sym j ∙ c .before .before .before .before .before .before .before .before .before .if1 .left) .0) in
+    let e = enough (a .sheet .now) (a .frame .now) (a .costs .now) (a .marks .now) (sym j ∙ c .before .before .before .before .before .before .before .before .before .if1 .left) (c .before .before .before .before .before .before .before .before .field .ensures) (c .before .before .before .before .before .before .before .field2 .ensures) (c .before .before .before .before .before .before .judge-places .ensures) (c .before .before .before .before .before .if2 .left) in
     omega (arith, h .columns, h .steps, e .0, e .1, e .2)
 
 fill-marks-requires : tie.Need-fill-marks-requires
 fill-marks-requires c κs =
+    let j = c .before .before .before .before .before .before .before .before .before .before .before .before .before .before .judge-sheet .ensures in
     let a = c .before .before .before .before .before .before .before .before .before .before .before .before .before .before .before .before .before .before .before .args in
-    let h = part-fine (a .sheet .now) (sheet-fine (a .sheet .now) (sym (c .before .before .before .before .before .before .before .before .before .before .before .before .before .before .judge-sheet .ensures) ∙ c .before .before .before .before .before .before .before .before .before .before .before .before .before .if1 .left) .0) in
-    let e = enough (a .sheet .now) (a .frame .now) (a .costs .now) (a .marks .now) (sym (c .before .before .before .before .before .before .before .before .before .before .before .before .before .before .judge-sheet .ensures) ∙ c .before .before .before .before .before .before .before .before .before .before .before .before .before .if1 .left) (c .before .before .before .before .before .before .before .before .before .before .before .before .field .ensures) (c .before .before .before .before .before .before .before .before .before .before .before .field2 .ensures) (c .before .before .before .before .before .before .before .before .before .before .judge-places .ensures) (c .before .before .before .before .before .before .before .before .before .if2 .left) in
+    let h = part-fine (a .sheet .now) (sheet-fine (a .sheet .now) (sym j ∙ c .before .before .before .before .before .before .before .before .before .before .before .before .before .if1 .left) .0) in
+    let e = enough (a .sheet .now) (a .frame .now) (a .costs .now) (a .marks .now) (sym j ∙ c .before .before .before .before .before .before .before .before .before .before .before .before .before .if1 .left) (c .before .before .before .before .before .before .before .before .before .before .before .before .field .ensures) (c .before .before .before .before .before .before .before .before .before .before .before .field2 .ensures) (c .before .before .before .before .before .before .before .before .before .before .judge-places .ensures) (c .before .before .before .before .before .before .before .before .before .if2 .left) in
     omega (arith, h .columns, h .steps, e .0, e .1, e .2)
 
 same-length : tie.Need-same-length

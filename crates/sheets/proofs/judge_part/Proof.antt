@@ -38,7 +38,8 @@ cast-m c = search needs
 
 judge-columns-requires : tie.Need-judge-columns-requires
 judge-columns-requires c κs =
-    let h = header-fine (onSheet (c .before .before .before .before .before .args .s .now) 0 4) (onSheet (c .before .before .before .before .before .args .s .now) 4 5) (onSheet (c .before .before .before .before .before .args .s .now) 9 8) (sym (c .before .before .before .judge-header .ensures) ∙ c .before .before .if1 .left) in
+    let g = c .before .before .before .before .before .args in
+    let h = header-fine (onSheet (g .s .now) 0 4) (onSheet (g .s .now) 4 5) (onSheet (g .s .now) 9 8) (sym (c .before .before .before .judge-header .ensures) ∙ c .before .before .if1 .left) in
     omega (arith, h .columns, h .steps)
 
 returns-2 : tie.Need-returns-2
@@ -52,7 +53,8 @@ returns-2 c =
 
 judge-steps-requires : tie.Need-judge-steps-requires
 judge-steps-requires c κs =
-    let h = header-fine (onSheet (c .before .before .before .before .before .before .before .args .s .now) 0 4) (onSheet (c .before .before .before .before .before .before .before .args .s .now) 4 5) (onSheet (c .before .before .before .before .before .before .before .args .s .now) 9 8) (sym (c .before .before .before .before .before .judge-header .ensures) ∙ c .before .before .before .before .if1 .left) in
+    let g = c .before .before .before .before .before .before .before .args in
+    let h = header-fine (onSheet (g .s .now) 0 4) (onSheet (g .s .now) 4 5) (onSheet (g .s .now) 9 8) (sym (c .before .before .before .before .before .judge-header .ensures) ∙ c .before .before .before .before .if1 .left) in
     omega (arith, h .columns, h .steps)
 
 returns-3 : tie.Need-returns-3
@@ -66,7 +68,8 @@ returns-3 c =
 
 model-bits-requires : tie.Need-model-bits-requires
 model-bits-requires c κs =
-    let h = header-fine (onSheet (c .before .before .before .before .before .before .before .before .before .args .s .now) 0 4) (onSheet (c .before .before .before .before .before .before .before .before .before .args .s .now) 4 5) (onSheet (c .before .before .before .before .before .before .before .before .before .args .s .now) 9 8) (sym (c .before .before .before .before .before .before .before .judge-header .ensures) ∙ c .before .before .before .before .before .before .if1 .left) in
+    let g = c .before .before .before .before .before .before .before .before .before .args in
+    let h = header-fine (onSheet (g .s .now) 0 4) (onSheet (g .s .now) 4 5) (onSheet (g .s .now) 9 8) (sym (c .before .before .before .before .before .before .before .judge-header .ensures) ∙ c .before .before .before .before .before .before .if1 .left) in
     omega (arith, h .columns, h .steps)
 
 sub-judge-field : tie.Need-sub-judge-field

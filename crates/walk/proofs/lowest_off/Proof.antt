@@ -50,7 +50,9 @@ loop-less : tie.Need-loop-less Inv-loop μ-loop
 loop-less c = search needs
 
 loop-again : tie.Need-loop-again Inv-loop μ-loop
-loop-again c = (omega arith, first-more _ (c .before .before .before .before .before .loop .j) (c .before .before .before .before .before .loop .inv .1) (off-none _ _ (c .before .before .before .before .before .loop .j) (sym (c .before .is-off .ensures) ∙ c .if1 .left)))
+loop-again c =
+    let l = c .before .before .before .before .before .loop in
+    (omega arith, first-more _ (l .j) (l .inv .1) (off-none _ _ (l .j) (sym (c .before .is-off .ensures) ∙ c .if1 .left)))
 
 returns-2 : tie.Need-returns-2 Inv-loop μ-loop
 returns-2 c =
