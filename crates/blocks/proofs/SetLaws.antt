@@ -33,6 +33,11 @@ xor-digit (suc (suc u)) v h k = absurd (omega arith)
 xor-digit zero (suc (suc v)) h k = absurd (omega arith)
 xor-digit (suc zero) (suc (suc v)) h k = absurd (omega arith)
 
+-- position 0 has weight 1
+zero-held : holds (only (position 0)) (position 0) ≡ true
+unfolding holds only
+zero-held = refl
+
 pub holds-common : (a b : PositionSet) (p : Position) → holds (common a b) p ≡ (holds a p && holds b p)
 unfolding holds common
 holds-common a b p =
@@ -55,7 +60,7 @@ holds-zero (suc p) = holds-suc 0 p ∙ holds-zero p
 
 only-holds : (p q : ℕ) → holds (only (position p)) (position q) ≡ eqb p q
 unfolding holds only
-only-holds zero zero = refl
+only-holds zero zero = zero-held
 only-holds zero (suc q) = holds-suc 1 q ∙ holds-zero q ∙ sym (eqb·zero-suc q)
 only-holds (suc p) zero = let e : 2 ^ suc p / 1 % 2 ≡ 0 = omega arith in ap (λ (n : ℕ). eqb n 1) e ∙ sym (eqb·suc-zero p)
 only-holds (suc p) (suc q) =
