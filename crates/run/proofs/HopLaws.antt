@@ -87,9 +87,10 @@ keeps-none : (d : Distance) (w : ℕ) → d .steps ≤ 255 → d .cost ≤ 255 *
 unfolding keepsIn coded keeps
 keeps-none d w s c = ne-eqb _ _ (λ (e : d .cost * 65536 + d .steps ≡ noWay + (w * 65536 + 1)). omega arith)
 
-keeps-some : (d e : Distance) (w : ℕ) → d .steps ≤ 255 → e .steps ≤ 255 → keepsIn (coded (some d)) w (coded (some e)) ≡ keeps d w (some e)
-unfolding keepsIn coded keeps plus
-keeps-some d e w s s′ =
+-- two costs and step counts in one number each are the same number exactly where both are the same
+same-pairs : (d e : Distance) (w : ℕ) → d .steps ≤ 255 → e .steps ≤ 255
+    → eqb (d .cost * 65536 + d .steps) (e .cost * 65536 + e .steps + (w * 65536 + 1)) ≡ (eqb (w + e .cost) (d .cost) && eqb (suc (e .steps)) (d .steps))
+same-pairs d e w s s′ =
     let x : ℕ = d .cost * 65536 + d .steps in
     let y : ℕ = e .cost * 65536 + e .steps + (w * 65536 + 1) in
     ⊎-elim
@@ -100,6 +101,10 @@ keeps-some d e w s s′ =
     (same-or-not (suc (e .steps)) (d .steps)))
     (λ (c : w + e .cost ≢ d .cost). ne-eqb x y (λ (z : x ≡ y). c (omega arith)) ∙ sym (rw (ne-eqb (w + e .cost) (d .cost) c)))
     (same-or-not (w + e .cost) (d .cost))
+
+keeps-some : (d e : Distance) (w : ℕ) → d .steps ≤ 255 → e .steps ≤ 255 → keepsIn (coded (some d)) w (coded (some e)) ≡ keeps d w (some e)
+unfolding keepsIn coded keeps plus
+keeps-some = same-pairs
 
 turned : (a b : Bool) → (a && b) ≡ (b && a)
 turned true true = refl

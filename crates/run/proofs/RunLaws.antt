@@ -1,6 +1,6 @@
 -- What a run answers is right, for any accepted model: a plan is one and none is cheaper, "no plan" is said only where none exists, an open run
 -- has filled its room and has no room for every state, and each cut is the one that the rules give for the blocks before it.
-use mathlib.Core.Path.{_≡_, refl, ap, _∙_, subst, subst⁻¹}
+use mathlib.Core.Path.{_≡_, refl, sym, ap, _∙_, subst, subst⁻¹}
 use mathlib.Core.Bool.{true}
 use mathlib.Core.List.{List, [], _∷_, _++_, map}
 use mathlib.Core.Option.{Option, none, some, Option·map, Option·getD}
@@ -111,6 +111,16 @@ module _ (t : Task) where
     pub ends : o .answer ≡ endOf (look t (blocksOf t (o .made)))
     pub right : Right room (o .made) (o .answer)
 
+module _ (t : Task) where
+  -- what a run comes to that has room for so many cuts after the one of this look
+  go-on : ℕ → List Cut → Look → Outcome
+  go-on left cs l = elim (cutOf l) [ none ↦ record { answer = endOf l; made = cs } | some c ↦ refine t left (cs ++ (c ∷ [])) ]
+
+  -- it looks at the blocks of all the cuts made so far
+  refine-looks : (left : ℕ) (cs : List Cut) → refine t (suc left) cs ≡ go-on left cs (look t (blocksOf t cs))
+  unfolding refine go-on
+  refine-looks left cs = refl
+
 module _ (t : Task) (v : Accepted t) where
   pub flaw-accepted : (cs : List Cut) → accepted t cs ≡ true → {e : Tenths} {c : Cut} → look t (blocksOf t cs) ≡ flaw e c → accepted t (cs ++ (c ∷ [])) ≡ true
   flaw-accepted cs ok {e} {c} q =
@@ -118,31 +128,35 @@ module _ (t : Task) (v : Accepted t) where
       accepted-more t cs c ok (fits-ok t (blocksOf t cs) c (r .0))
 
   -- a flaw with the room full is right to be open: one block more than the room still holds no more blocks than states
-  full-right : (cs : List Cut) (room : ℕ) → accepted t cs ≡ true → suc (length cs) ≡ room → (l : Look) → look t (blocksOf t cs) ≡ l → Right t room cs (endOf l)
-  unfolding endOf
-  full-right cs room ok e hopeless q = subst (LookRight t v cs ok) q (look-right t v cs ok)
-  full-right cs room ok e (planned ss) q = subst (LookRight t v cs ok) q (look-right t v cs ok)
-  full-right cs room ok e (flaw k c) q =
+  full-open : (cs : List Cut) (room : ℕ) → accepted t cs ≡ true → suc (length cs) ≡ room → {k : Tenths} {c : Cut} → look t (blocksOf t cs) ≡ flaw k c → Right t room cs («open» k)
+  full-open cs room ok e {k} {c} q =
       let r : LookRight t v cs ok (flaw k c) = subst (LookRight t v cs ok) q (look-right t v cs ok) in
       let n = few t v (cs ++ (c ∷ [])) (flaw-accepted cs ok q) in
       let l : length (blocksOf t (cs ++ (c ∷ []))) ≡ suc (suc (length cs)) = blocks-length t (cs ++ (c ∷ [])) ∙ ap suc (length-append cs (c ∷ []) ∙ omega arith) in
       (e, omega arith, r .1)
 
+  full-right : (cs : List Cut) (room : ℕ) → accepted t cs ≡ true → suc (length cs) ≡ room → (l : Look) → look t (blocksOf t cs) ≡ l → Right t room cs (endOf l)
+  unfolding endOf
+  full-right cs room ok e hopeless q = subst (LookRight t v cs ok) q (look-right t v cs ok)
+  full-right cs room ok e (planned ss) q = subst (LookRight t v cs ok) q (look-right t v cs ok)
+  full-right cs room ok e (flaw k c) q = full-open cs room ok e q
+
   refine-right : (left : ℕ) (cs : List Cut) (room : ℕ) → accepted t cs ≡ true → Ruled t cs → suc (length cs) + left ≡ room → RunRight t room (refine t left cs)
-  unfolding refine cutOf endOf
+  unfolding refine go-on cutOf endOf
   refine-right zero cs room ok by e =
       record { made = ok; ruled = by; fits = omega arith; ends = refl; right = full-right cs room ok (omega arith) (look t (blocksOf t cs)) refl }
   refine-right (suc left) cs room ok by e =
-      go (λ c ok′ by′. refine-right left (cs ++ (c ∷ [])) room ok′ by′ (omega (arith, length-append cs (c ∷ [])))) (look t (blocksOf t cs)) refl
+      subst⁻¹ (RunRight t room) (refine-looks t left cs)
+      (go (λ c ok′ by′. refine-right left (cs ++ (c ∷ [])) room ok′ by′ (omega (arith, length-append cs (c ∷ [])))) (look t (blocksOf t cs)) refl)
     where
-      ended : (l : Look) → look t (blocksOf t cs) ≡ l → cutOf (look t (blocksOf t cs)) ≡ none → Right t room cs (endOf l) → RunRight t room (refine t (suc left) cs)
-      ended l q n r = rw (n, refine) (record { made = ok; ruled = by; fits = omega arith; ends = refl; right = rw q r })
+      ended : (l : Look) → look t (blocksOf t cs) ≡ l → Right t room cs (endOf l) → RunRight t room (record { answer = endOf l; made = cs })
+      ended l q r = record { made = ok; ruled = by; fits = omega arith; ends = ap endOf (sym q); right = r }
 
       go : ((c : Cut) → accepted t (cs ++ (c ∷ [])) ≡ true → Ruled t (cs ++ (c ∷ [])) → RunRight t room (refine t left (cs ++ (c ∷ []))))
-          → (l : Look) → look t (blocksOf t cs) ≡ l → RunRight t room (refine t (suc left) cs)
-      go ih hopeless q = ended hopeless q (rw q) (subst (LookRight t v cs ok) q (look-right t v cs ok))
-      go ih (planned ss) q = ended (planned ss) q (rw q) (subst (LookRight t v cs ok) q (look-right t v cs ok))
-      go ih (flaw k c) q = rw (q, refine) (ih c (flaw-accepted cs ok q) (one-more by q))
+          → (l : Look) → look t (blocksOf t cs) ≡ l → RunRight t room (go-on t left cs l)
+      go ih hopeless q = ended hopeless q (subst (LookRight t v cs ok) q (look-right t v cs ok))
+      go ih (planned ss) q = ended (planned ss) q (subst (LookRight t v cs ok) q (look-right t v cs ok))
+      go ih (flaw k c) q = ih c (flaw-accepted cs ok q) (one-more by q)
 
   -- a run answers rightly
   pub run-right : (room : ℕ) → 1 ≤ room → RunRight t room (run t room)
