@@ -27,7 +27,7 @@ use Rattle.historian.specs.Entries.{bytesAt, fewPlaces, usable, askCheck
 use Rattle.historian.proofs.ValueLaws.{list-over, usable-is, same-test}
 use Rattle.sheets.specs.Holding.{taskOn}
 
-module _ (model s states bytes l : List ℕ) (long : length l ≡ usable 64 4 (length bytes)) where
+module _ (model s states l : List ℕ) where
   abbrev t : Task
   t = taskOn model
 
@@ -37,28 +37,10 @@ module _ (model s states bytes l : List ℕ) (long : length l ≡ usable 64 4 (l
   abbrev N : ℕ
   N = refusal (questionChecks model s states l)
 
-  tail-same : refusal (check 11 (badStates t states) ∷ fewPlaces n 4 bytes ∷ []) ≡ refusal (check 11 (badStates t states) ∷ tooFew n l ∷ [])
-  unfolding fewPlaces
-  tail-same = ⊎-elim bad good (true-or-false (badStates t states))
-    where
-      bad : badStates t states ≡ true → refusal (check 11 (badStates t states) ∷ check 8 (ltb (length bytes / 4) n) ∷ []) ≡ refusal (check 11 (badStates t states) ∷ tooFew n l ∷ [])
-      bad h = sym (applies 11 (badStates t states) _ h (λ z. omega arith)) ∙ applies 11 (badStates t states) _ h (λ z. omega arith)
-
-      good : badStates t states ≡ false → refusal (check 11 (badStates t states) ∷ check 8 (ltb (length bytes / 4) n) ∷ []) ≡ refusal (check 11 (badStates t states) ∷ tooFew n l ∷ [])
-      good h =
-          let u = usable-is 64 4 (length bytes) in
-          let k = few-states t states h in
-          ap (λ (x : Bool). refusal (check 11 (badStates t states) ∷ check 8 x ∷ []))
-          (same-test (length bytes / 4) n (length l) n (λ p. omega (arith, u .there)) (λ p. let q = u .enough n k p in omega arith))
-
-  checks-same : refusal (askChecks model s states bytes) ≡ N
-  unfolding askChecks questionChecks
-  checks-same = refusal-append (cutSheetChecks model s) _ ∙ ap (λ (x : ℕ). refusal (cutSheetChecks model s) then x) tail-same ∙ sym (refusal-append (cutSheetChecks model s) _)
+  abbrev estimates : List ℕ
+  estimates = estimatesOf t (cutsOf s) states
 
   module _ {a : Asked} {l′ : List ℕ} (e : outcome a l′ ≡ asking model s states l) where
-    abbrev estimates : List ℕ
-    estimates = estimatesOf t (cutsOf s) states
-
     made : N ≡ 0 → outcome a l′ ≡ outcome (Estimates n) (over estimates l)
     unfolding asking
     made z = e ∙ simp (eq-eqb N 0 z)
@@ -75,14 +57,16 @@ module _ (model s states bytes l : List ℕ) (long : length l ≡ usable 64 4 (l
         let r = passed 8 (ltb (length l) n) [] (λ y. omega arith) (q .1) in
         (few-states t states (q .0), ltb-false (length l) n (r .0))
 
-    pub record Answered (k : ℕ) : Type 0 where
-      pub few : k ≤ 64
-      pub room : k * 4 ≤ length bytes
-      pub within : k ≤ length l′
-      pub told : (ys : List ℕ) {bytes′ : List ℕ} → bytes′ ≡ puts 0 (each k (bytesAt (l′ ++ ys))) bytes → askOutcome 0 bytes′ ≡ askEntry model s states bytes
+    record Answered (k : ℕ) : Type 0 where
+      ok : N ≡ 0
+      few : k ≤ 64
+      there : k ≤ length l
+      within : k ≤ length l′
+      list : l′ ≡ over estimates l
+      long : k ≡ length estimates
 
-    pub answered : (k : ℕ) → a ≡ Estimates k → Answered k
-    unfolding askEntry estimatesOf over
+    answered : (k : ℕ) → a ≡ Estimates k → Answered k
+    unfolding estimatesOf over
     answered k h = split (ℕ-discrete N 0)
       where
         split : Dec (N ≡ 0) → Answered k
@@ -94,24 +78,21 @@ module _ (model s states bytes l : List ℕ) (long : length l ≡ usable 64 4 (l
             let m = ap (λ (x : question.Outcome). x .answer) (made z) in
             let q : k ≡ n = cc in
             let f = fits z in
-            let u = usable-is 64 4 (length bytes) in
             let v : l′ ≡ over estimates l = ap (λ (o : question.Outcome). o .estimates) (made z) in
             let g : k ≡ length estimates = q ∙ sym (tab-length n (estimateAt t (cutsOf s) states)) in
-            let b : k * 4 ≤ length bytes = omega (arith, f .1, u .there) in
             record {
+              ok = z;
               few = omega (arith, f .0);
-              room = b;
+              there = omega (arith, f .1);
               within = omega (arith, ap length v, length-append estimates (drop (length estimates) l), g);
-              told = λ ys w.
-                  let x = w ∙ list-over estimates l ys bytes k v g b in
-                  simp (eq-eqb (refusal (askChecks model s states bytes)) 0 (checks-same ∙ z)) (ap (askOutcome 0) x);
+              list = v;
+              long = g;
             }
 
-    pub refused : (k : ℕ) → a ≡ Refused k → askOutcome k bytes ≡ askEntry model s states bytes
-    unfolding askEntry
+    refused : (k : ℕ) → a ≡ Refused k → (N ≡ 0 → ⊥) × (k ≡ N)
     refused k h = split (ℕ-discrete N 0)
       where
-        split : Dec (N ≡ 0) → askOutcome k bytes ≡ askEntry model s states bytes
+        split : Dec (N ≡ 0) → (N ≡ 0 → ⊥) × (k ≡ N)
         split (yes z) =
             let m = ap (λ (x : question.Outcome). x .answer) (made z) in
             let y : _≡_ {A = ℕ} 0 1 = cc in
@@ -119,20 +100,54 @@ module _ (model s states bytes l : List ℕ) (long : length l ≡ usable 64 4 (l
         split (no z) =
             let m = ap (λ (x : question.Outcome). x .answer) (not-made z) in
             let q : k ≡ N = cc in
-            simp (ne-eqb (refusal (askChecks model s states bytes)) 0 (λ v. z (sym checks-same ∙ v))) (ap (λ (x : ℕ). askOutcome x bytes) (q ∙ sym checks-same))
+            (z, q)
+
+  -- ---- 8 is judged on the places lent: a list that has as many of them as a question can have states
+  module _ (bytes : List ℕ) (most : ℕ) (all : ltb most 64 ≡ false) (lent : length l ≡ usable most 4 (length bytes)) where
+    tail-same : refusal (check 11 (badStates t states) ∷ fewPlaces n 4 bytes ∷ []) ≡ refusal (check 11 (badStates t states) ∷ tooFew n l ∷ [])
+    unfolding fewPlaces
+    tail-same = ⊎-elim bad good (true-or-false (badStates t states))
+      where
+        bad : badStates t states ≡ true → refusal (check 11 (badStates t states) ∷ check 8 (ltb (length bytes / 4) n) ∷ []) ≡ refusal (check 11 (badStates t states) ∷ tooFew n l ∷ [])
+        bad h = sym (applies 11 (badStates t states) _ h (λ z. omega arith)) ∙ applies 11 (badStates t states) _ h (λ z. omega arith)
+
+        good : badStates t states ≡ false → refusal (check 11 (badStates t states) ∷ check 8 (ltb (length bytes / 4) n) ∷ []) ≡ refusal (check 11 (badStates t states) ∷ tooFew n l ∷ [])
+        good h =
+            let u = usable-is most 4 (length bytes) in
+            let k = few-states t states h in
+            ap (λ (x : Bool). refusal (check 11 (badStates t states) ∷ check 8 x ∷ []))
+            (same-test (length bytes / 4) n (length l) n (λ p. omega (arith, u .there)) (λ p. let q = u .enough n (omega (arith, k, ltb-false most 64 all)) p in omega arith))
+
+    checks-same : refusal (askChecks model s states bytes) ≡ N
+    unfolding askChecks questionChecks
+    checks-same = refusal-append (cutSheetChecks model s) _ ∙ ap (λ (x : ℕ). refusal (cutSheetChecks model s) then x) tail-same ∙ sym (refusal-append (cutSheetChecks model s) _)
+
+    told : {a : Asked} {l′ : List ℕ} (e : outcome a l′ ≡ asking model s states l) (k : ℕ) → a ≡ Estimates k → (ys : List ℕ) {bytes′ : List ℕ} → bytes′ ≡ puts 0 (each k (bytesAt (l′ ++ ys))) bytes
+        → askOutcome 0 bytes′ ≡ askEntry model s states bytes
+    unfolding askEntry
+    told e k q ys w =
+        let r = answered e k q in
+        let b : k * 4 ≤ length bytes = omega (arith, r .there, usable-is most 4 (length bytes) .there) in
+        let x = w ∙ list-over estimates l ys bytes k (r .list) (r .long) b in
+        simp (eq-eqb (refusal (askChecks model s states bytes)) 0 (checks-same ∙ r .ok)) (ap (askOutcome 0) x)
+
+    told-refused : {a : Asked} {l′ : List ℕ} (e : outcome a l′ ≡ asking model s states l) (k : ℕ) → a ≡ Refused k → askOutcome k bytes ≡ askEntry model s states bytes
+    unfolding askEntry
+    told-refused e k q =
+        let r = refused e k q in
+        simp (ne-eqb (refusal (askChecks model s states bytes)) 0 (λ v. r .0 (sym checks-same ∙ v))) (ap (λ (x : ℕ). askOutcome x bytes) (r .1 ∙ sym checks-same))
 
 -- ---- the same with the first values of a list to work in
-module _ (model s states bytes list : List ℕ) (h : length list ≡ 64) {n : ℕ} (p : n ≡ usable 64 4 (length bytes)) {a : Asked} {l′ : List ℕ} (e : outcome a l′ ≡ asking model s states (take n list)) where
-  part : length (take n list) ≡ usable 64 4 (length bytes)
-  part = length-take-le n list (omega (arith, usable-is 64 4 (length bytes) .few)) ∙ p
+module _ (model s states bytes list : List ℕ) (n : ℕ) {a : Asked} {l′ : List ℕ} (e : outcome a l′ ≡ asking model s states (take n list)) (h : n ≤ length list) where
+  pub asked-go : (k : ℕ) → a ≡ Estimates k → n * 4 ≤ length bytes → (k < 1024) × (k ≤ length (l′ ++ drop n list)) × (k * 4 ≤ length bytes)
+  asked-go k q b =
+      let w = answered model s states (take n list) e k q in
+      (omega (arith, w .few), omega (arith, w .within, length-append l′ (drop n list)), omega (arith, w .there, length-take-le n list h))
 
-  pub asked-go : (k : ℕ) → a ≡ Estimates k → (k < 1024) × (k ≤ length (l′ ++ drop n list)) × (k * 4 ≤ length bytes)
-  asked-go k q =
-      let w = answered model s states bytes (take n list) part e k q in
-      (omega (arith, w .few), omega (arith, w .within, length-append l′ (drop n list)), w .room)
+  -- the places lent are as many as can matter
+  module _ (most : ℕ) (p : n ≡ usable most 4 (length bytes)) (all : ltb most 64 ≡ false) where
+    pub asked-in : (k : ℕ) → a ≡ Estimates k → {bytes′ : List ℕ} → bytes′ ≡ puts 0 (each k (bytesAt (l′ ++ drop n list))) bytes → askOutcome 0 bytes′ ≡ askEntry model s states bytes
+    asked-in k q = told model s states (take n list) bytes most all (length-take-le n list h ∙ p) e k q (drop n list)
 
-  pub asked-in : (k : ℕ) → a ≡ Estimates k → {bytes′ : List ℕ} → bytes′ ≡ puts 0 (each k (bytesAt (l′ ++ drop n list))) bytes → askOutcome 0 bytes′ ≡ askEntry model s states bytes
-  asked-in k q = answered model s states bytes (take n list) part e k q .told (drop n list)
-
-  pub refused-in : (k : ℕ) → a ≡ Refused k → askOutcome k bytes ≡ askEntry model s states bytes
-  refused-in = refused model s states bytes (take n list) part e
+    pub refused-in : (k : ℕ) → a ≡ Refused k → askOutcome k bytes ≡ askEntry model s states bytes
+    refused-in = told-refused model s states (take n list) bytes most all (length-take-le n list h ∙ p) e

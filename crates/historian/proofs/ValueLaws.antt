@@ -73,6 +73,9 @@ module _ (n w b : ℕ) where
 pub few-places : (n w b : ℕ) {m : ℕ} → m ≡ usable n w b → m ≤ n
 few-places n w b e = omega (arith, usable-is n w b .few)
 
+pub whole-places : (n w b : ℕ) {m : ℕ} → m ≡ usable n w b → m ≤ b / w
+whole-places n w b e = omega (arith, usable-is n w b .there)
+
 -- two tests that say the same
 pub same-test : (a b c d : ℕ) → (a < b → c < d) → (b ≤ a → d ≤ c) → ltb a b ≡ ltb c d
 same-test a b c d f g = split (decLt a b)
