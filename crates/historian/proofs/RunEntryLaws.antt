@@ -90,38 +90,31 @@ module _ (s : List ℕ) (room : ℕ) (cuts rows c r : List ℕ) (lc : length c �
             simp (ne-eqb (refusal (entryChecks s room cuts rows)) 0 (λ v. b .bad (sym checks-same ∙ v))) (rw (x, y) (ap (λ (m : ℕ). runOutcome m cuts rows) z))
 
 -- ---- the same with the first values of two lists to work in
-module _ (s : List ℕ) (room : ℕ) (cutList rowList cuts rows : List ℕ) (h : (length cutList ≡ 765) × (length rowList ≡ 765)) {m n : ℕ} (p : m ≡ usable 255 12 (length cuts)) (q : n ≡ usable 255 12 (length rows)) where
-  part : (list bytes : List ℕ) {k : ℕ} → length list ≡ 765 → k ≡ usable 255 12 (length bytes) → length (take (k * 3) list) ≡ usable 255 12 (length bytes) * 3
-  part list bytes {k} l e = length-take-le (k * 3) list (omega (arith, usable-is 255 12 (length bytes) .few)) ∙ ap (λ (x : ℕ). x * 3) e
+module _ (s : List ℕ) (room : ℕ) (cutList rowList : List ℕ) (m n : ℕ) {a : Answer} {c′ r′ : List ℕ} (e : outcome a c′ r′ ≡ running s room (take (m * 3) cutList) (take (n * 3) rowList)) where
+  known : count.Known s room (take (m * 3) cutList) (take (n * 3) rowList) a c′ r′
+  known = count.known s room (take (m * 3) cutList) (take (n * 3) rowList) e
 
-  abbrev c : List ℕ
-  c = take (m * 3) cutList
+  pub counted : Counted a
+  counted = known .counted
 
-  abbrev r : List ℕ
-  r = take (n * 3) rowList
+  pub cuts-go : (cuts : List ℕ) {k : ℕ} → length cutList ≡ 765 → m ≤ 255 → m * 12 ≤ length cuts → k ≡ cutValues a
+      → (k < 1024) × (k ≤ length (c′ ++ drop (m * 3) cutList)) × (k * 4 ≤ length cuts)
+  cuts-go cuts h f w z =
+      let l = length-take-le (m * 3) cutList (omega arith) in
+      (omega (arith, known .cuts-fit, l), omega (arith, known .cuts-in, length-append c′ (drop (m * 3) cutList)), omega (arith, known .cuts-fit, l))
 
-  module _ {a : Answer} {c′ r′ : List ℕ} (e : outcome a c′ r′ ≡ running s room c r) where
-    known : count.Known s room c r a c′ r′
-    known = count.known s room c r e
+  pub rows-go : (rows : List ℕ) {k : ℕ} → length rowList ≡ 765 → n ≤ 255 → n * 12 ≤ length rows → k ≡ rowValues a
+      → (k < 1024) × (k ≤ length (r′ ++ drop (n * 3) rowList)) × (k * 4 ≤ length rows)
+  rows-go rows h f w z =
+      let l = length-take-le (n * 3) rowList (omega arith) in
+      (omega (arith, known .rows-fit, l), omega (arith, known .rows-in, length-append r′ (drop (n * 3) rowList)), omega (arith, known .rows-fit, l))
 
-    places : Room s room cuts rows c r (part cutList cuts (h .0) p) (part rowList rows (h .1) q) e
-    places = room-for s room cuts rows c r (part cutList cuts (h .0) p) (part rowList rows (h .1) q) e
-
-    pub counted : Counted a
-    counted = known .counted
-
-    pub cuts-go : {k : ℕ} → k ≡ cutValues a → (k < 1024) × (k ≤ length (c′ ++ drop (m * 3) cutList)) × (k * 4 ≤ length cuts)
-    cuts-go z =
-        let f = usable-is 255 12 (length cuts) .few in
-        (omega (arith, known .cuts-fit, part cutList cuts (h .0) p, f), omega (arith, known .cuts-in, length-append c′ (drop (m * 3) cutList)), omega (arith, places .cut-bytes))
-
-    pub rows-go : {k : ℕ} → k ≡ rowValues a → (k < 1024) × (k ≤ length (r′ ++ drop (n * 3) rowList)) × (k * 4 ≤ length rows)
-    rows-go z =
-        let f = usable-is 255 12 (length rows) .few in
-        (omega (arith, known .rows-fit, part rowList rows (h .1) q, f), omega (arith, known .rows-in, length-append r′ (drop (n * 3) rowList)), omega (arith, places .row-bytes))
+  module _ (cuts rows : List ℕ) (h : (length cutList ≡ 765) × (length rowList ≡ 765)) (p : m ≡ usable 255 12 (length cuts)) (q : n ≡ usable 255 12 (length rows)) where
+    part : (list bytes : List ℕ) {k : ℕ} → length list ≡ 765 → k ≡ usable 255 12 (length bytes) → length (take (k * 3) list) ≡ usable 255 12 (length bytes) * 3
+    part list bytes {k} l e = length-take-le (k * 3) list (omega (arith, usable-is 255 12 (length bytes) .few)) ∙ ap (λ (x : ℕ). x * 3) e
 
     pub told-in : {k l x : ℕ} {cuts′ rows′ : List ℕ} → k ≡ cutValues a → l ≡ rowValues a → x ≡ answerNumber a
         → cuts′ ≡ puts 0 (each k (bytesAt (c′ ++ drop (m * 3) cutList))) cuts → rows′ ≡ puts 0 (each l (bytesAt (r′ ++ drop (n * 3) rowList))) rows → runOutcome x cuts′ rows′ ≡ runEntry s room cuts rows
     told-in k l x y z =
-        entry-told s room cuts rows c r (part cutList cuts (h .0) p) (part rowList rows (h .1) q) e (drop (m * 3) cutList) (drop (n * 3) rowList)
+        entry-told s room cuts rows (take (m * 3) cutList) (take (n * 3) rowList) (part cutList cuts (h .0) p) (part rowList rows (h .1) q) e (drop (m * 3) cutList) (drop (n * 3) rowList)
         (y ∙ ap (λ (i : ℕ). puts 0 (each i (bytesAt (c′ ++ drop (m * 3) cutList))) cuts) k) (z ∙ ap (λ (i : ℕ). puts 0 (each i (bytesAt (r′ ++ drop (n * 3) rowList))) rows) l) x

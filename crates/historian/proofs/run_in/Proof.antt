@@ -1,9 +1,8 @@
 use Prim.Native.Nat.{_*_}
 use native.Mathlib.Omega.{arith}
 use mathlib.Core.Path.{sym}
-use lib.ListN.{length}
 use lib.Seq.{length-take-le}
-use Rattle.historian.proofs.ValueLaws.{few-places}
+use Rattle.historian.proofs.ValueLaws.{few-places, whole-places}
 use Rattle.historian.proofs.RunEntryLaws.{counted, cuts-go, rows-go, told-in}
 use borrow.Author.Needs.{needs}
 use Rattle.historian.proofs.run_in.Statement.{statement}
@@ -24,7 +23,7 @@ usable-places-requires : tie.Need-usable-places-requires
 usable-places-requires c κs = search needs
 
 mul-m : tie.Need-mul-m
-mul-m c = let h = few-places 255 12 (length (c .before .before .before .before .before .before .args .cuts .now)) (c .usable-places .ensures) in search (needs, h)
+mul-m c = let h = few-places _ _ _ (c .usable-places .ensures) in search (needs, h)
 
 sub-usable-places-2 : tie.Need-sub-usable-places-2
 sub-usable-places-2 c = search needs
@@ -33,37 +32,37 @@ usable-places-requires-2 : tie.Need-usable-places-requires-2
 usable-places-requires-2 c κs = search needs
 
 mul-n : tie.Need-mul-n
-mul-n c = let h = few-places 255 12 (length (c .before .before .before .before .before .before .before .args .rows .now)) (c .usable-places2 .ensures) in search (needs, h)
+mul-n c = let h = few-places _ _ _ (c .usable-places2 .ensures) in search (needs, h)
 
 slice-relend-prefix-run : tie.Need-slice-relend-prefix-run
-slice-relend-prefix-run c = omega (arith, c .before .before .before .before .before .before .before .pre .0, few-places 255 12 (length (c .before .before .before .before .before .before .before .args .cuts .now)) (c .before .usable-places .ensures))
+slice-relend-prefix-run c = omega (arith, c .before .before .before .before .before .before .before .pre .0, few-places _ _ _ (c .before .usable-places .ensures))
 
 slice-aggregate-run : tie.Need-slice-aggregate-run
-slice-aggregate-run c = sym (length-take-le (c .before .before .usable-places .result * 3) (c .before .before .before .before .before .before .before .before .args .cut-list .now) (omega (arith, c .before .before .before .before .before .before .before .before .pre .0, few-places 255 12 (length (c .before .before .before .before .before .before .before .before .args .cuts .now)) (c .before .before .usable-places .ensures))))
+slice-aggregate-run c = sym (length-take-le (c .before .before .usable-places .result * 3) (c .before .before .before .before .before .before .before .before .args .cut-list .now) (omega (arith, c .before .before .before .before .before .before .before .before .pre .0, few-places _ _ _ (c .before .before .usable-places .ensures))))
 
 slice-relend-prefix-run-2 : tie.Need-slice-relend-prefix-run-2
-slice-relend-prefix-run-2 c = omega (arith, c .before .before .before .before .before .before .before .before .pre .1, few-places 255 12 (length (c .before .before .before .before .before .before .before .before .args .rows .now)) (c .before .usable-places2 .ensures))
+slice-relend-prefix-run-2 c = omega (arith, c .before .before .before .before .before .before .before .before .pre .1, few-places _ _ _ (c .before .usable-places2 .ensures))
 
 slice-aggregate-run-2 : tie.Need-slice-aggregate-run-2
-slice-aggregate-run-2 c = sym (length-take-le (c .before .before .usable-places2 .result * 3) (c .before .before .before .before .before .before .before .before .before .args .row-list .now) (omega (arith, c .before .before .before .before .before .before .before .before .before .pre .1, few-places 255 12 (length (c .before .before .before .before .before .before .before .before .before .args .rows .now)) (c .before .before .usable-places2 .ensures))))
+slice-aggregate-run-2 c = sym (length-take-le (c .before .before .usable-places2 .result * 3) (c .before .before .before .before .before .before .before .before .before .args .row-list .now) (omega (arith, c .before .before .before .before .before .before .before .before .before .pre .1, few-places _ _ _ (c .before .before .usable-places2 .ensures))))
 
 run-requires : tie.Need-run-requires
 run-requires c κs = search needs
 
 cut-values-requires : tie.Need-cut-values-requires
-cut-values-requires c κs = let g = c .before .before .before .before .before .before .before .before .before .before .before .before .before .before .before .args in counted (g .sheet .now) (g .room) (g .cut-list .now) (g .row-list .now) (g .cuts .now) (g .rows .now) (c .before .before .before .before .before .before .before .before .before .before .before .before .before .before .before .pre) (c .before .before .before .before .before .before .before .before .before .usable-places .ensures) (c .before .before .before .before .before .before .before .before .usable-places2 .ensures) (c .before .before .before .before .before .run .ensures)
+cut-values-requires c κs = let g = c .before .before .before .before .before .before .before .before .before .before .before .before .before .before .before .args in counted (g .sheet .now) (g .room) (g .cut-list .now) (g .row-list .now) (c .before .before .before .before .before .before .before .before .before .usable-places .result) (c .before .before .before .before .before .before .before .before .usable-places2 .result) (c .before .before .before .before .before .run .ensures)
 
 put-values-requires : tie.Need-put-values-requires
-put-values-requires c κs = let g = c .before .before .before .before .before .before .before .before .before .before .before .before .before .before .before .before .before .args in cuts-go (g .sheet .now) (g .room) (g .cut-list .now) (g .row-list .now) (g .cuts .now) (g .rows .now) (c .before .before .before .before .before .before .before .before .before .before .before .before .before .before .before .before .before .pre) (c .before .before .before .before .before .before .before .before .before .before .before .usable-places .ensures) (c .before .before .before .before .before .before .before .before .before .before .usable-places2 .ensures) (c .before .before .before .before .before .before .before .run .ensures) (c .before .cut-values .ensures)
+put-values-requires c κs = let g = c .before .before .before .before .before .before .before .before .before .before .before .before .before .before .before .before .before .args in cuts-go (g .sheet .now) (g .room) (g .cut-list .now) (g .row-list .now) (c .before .before .before .before .before .before .before .before .before .before .before .usable-places .result) (c .before .before .before .before .before .before .before .before .before .before .usable-places2 .result) (c .before .before .before .before .before .before .before .run .ensures) (g .cuts .now) (c .before .before .before .before .before .before .before .before .before .before .before .before .before .before .before .before .before .pre .0) (few-places _ _ _ (c .before .before .before .before .before .before .before .before .before .before .before .usable-places .ensures)) (omega (arith, whole-places _ _ _ (c .before .before .before .before .before .before .before .before .before .before .before .usable-places .ensures))) (c .before .cut-values .ensures)
 
 row-values-requires : tie.Need-row-values-requires
-row-values-requires c κs = let g = c .before .before .before .before .before .before .before .before .before .before .before .before .before .before .before .before .before .before .before .before .before .args in counted (g .sheet .now) (g .room) (g .cut-list .now) (g .row-list .now) (g .cuts .now) (g .rows .now) (c .before .before .before .before .before .before .before .before .before .before .before .before .before .before .before .before .before .before .before .before .before .pre) (c .before .before .before .before .before .before .before .before .before .before .before .before .before .before .before .usable-places .ensures) (c .before .before .before .before .before .before .before .before .before .before .before .before .before .before .usable-places2 .ensures) (c .before .before .before .before .before .before .before .before .before .before .before .run .ensures)
+row-values-requires c κs = let g = c .before .before .before .before .before .before .before .before .before .before .before .before .before .before .before .before .before .before .before .before .before .args in counted (g .sheet .now) (g .room) (g .cut-list .now) (g .row-list .now) (c .before .before .before .before .before .before .before .before .before .before .before .before .before .before .before .usable-places .result) (c .before .before .before .before .before .before .before .before .before .before .before .before .before .before .usable-places2 .result) (c .before .before .before .before .before .before .before .before .before .before .before .run .ensures)
 
 put-values-requires-2 : tie.Need-put-values-requires-2
-put-values-requires-2 c κs = let g = c .before .before .before .before .before .before .before .before .before .before .before .before .before .before .before .before .before .before .before .before .before .before .before .args in rows-go (g .sheet .now) (g .room) (g .cut-list .now) (g .row-list .now) (g .cuts .now) (g .rows .now) (c .before .before .before .before .before .before .before .before .before .before .before .before .before .before .before .before .before .before .before .before .before .before .before .pre) (c .before .before .before .before .before .before .before .before .before .before .before .before .before .before .before .before .before .usable-places .ensures) (c .before .before .before .before .before .before .before .before .before .before .before .before .before .before .before .before .usable-places2 .ensures) (c .before .before .before .before .before .before .before .before .before .before .before .before .before .run .ensures) (c .before .row-values .ensures)
+put-values-requires-2 c κs = let g = c .before .before .before .before .before .before .before .before .before .before .before .before .before .before .before .before .before .before .before .before .before .before .before .args in rows-go (g .sheet .now) (g .room) (g .cut-list .now) (g .row-list .now) (c .before .before .before .before .before .before .before .before .before .before .before .before .before .before .before .before .before .usable-places .result) (c .before .before .before .before .before .before .before .before .before .before .before .before .before .before .before .before .usable-places2 .result) (c .before .before .before .before .before .before .before .before .before .before .before .before .before .run .ensures) (g .rows .now) (c .before .before .before .before .before .before .before .before .before .before .before .before .before .before .before .before .before .before .before .before .before .before .before .pre .1) (few-places _ _ _ (c .before .before .before .before .before .before .before .before .before .before .before .before .before .before .before .before .usable-places2 .ensures)) (omega (arith, whole-places _ _ _ (c .before .before .before .before .before .before .before .before .before .before .before .before .before .before .before .before .usable-places2 .ensures))) (c .before .row-values .ensures)
 
 answer-number-requires : tie.Need-answer-number-requires
-answer-number-requires c κs = let g = c .before .before .before .before .before .before .before .before .before .before .before .before .before .before .before .before .before .before .before .before .before .before .before .before .before .before .args in counted (g .sheet .now) (g .room) (g .cut-list .now) (g .row-list .now) (g .cuts .now) (g .rows .now) (c .before .before .before .before .before .before .before .before .before .before .before .before .before .before .before .before .before .before .before .before .before .before .before .before .before .before .pre) (c .before .before .before .before .before .before .before .before .before .before .before .before .before .before .before .before .before .before .before .before .usable-places .ensures) (c .before .before .before .before .before .before .before .before .before .before .before .before .before .before .before .before .before .before .before .usable-places2 .ensures) (c .before .before .before .before .before .before .before .before .before .before .before .before .before .before .before .before .run .ensures)
+answer-number-requires c κs = let g = c .before .before .before .before .before .before .before .before .before .before .before .before .before .before .before .before .before .before .before .before .before .before .before .before .before .before .args in counted (g .sheet .now) (g .room) (g .cut-list .now) (g .row-list .now) (c .before .before .before .before .before .before .before .before .before .before .before .before .before .before .before .before .before .before .before .before .usable-places .result) (c .before .before .before .before .before .before .before .before .before .before .before .before .before .before .before .before .before .before .before .usable-places2 .result) (c .before .before .before .before .before .before .before .before .before .before .before .before .before .before .before .before .run .ensures)
 
 same-length : tie.Need-same-length
 same-length c = search needs
@@ -78,7 +77,7 @@ same-length-4 : tie.Need-same-length-4
 same-length-4 c = search needs
 
 returns : tie.Need-returns
-returns c = let g = c .before .before .before .before .before .before .before .before .before .before .before .before .before .before .before .before .before .before .before .before .before .before .before .before .before .before .before .args in told-in (g .sheet .now) (g .room) (g .cut-list .now) (g .row-list .now) (g .cuts .now) (g .rows .now) (c .before .before .before .before .before .before .before .before .before .before .before .before .before .before .before .before .before .before .before .before .before .before .before .before .before .before .before .pre) (c .before .before .before .before .before .before .before .before .before .before .before .before .before .before .before .before .before .before .before .before .before .usable-places .ensures) (c .before .before .before .before .before .before .before .before .before .before .before .before .before .before .before .before .before .before .before .before .usable-places2 .ensures) (c .before .before .before .before .before .before .before .before .before .before .before .before .before .before .before .before .before .run .ensures) (c .before .before .before .before .before .before .before .before .before .before .before .cut-values .ensures) (c .before .before .before .before .before .row-values .ensures) (c .answer-number .ensures) (c .before .before .before .before .before .before .before .before .before .put-values .ensures) (c .before .before .before .put-values2 .ensures)
+returns c = let g = c .before .before .before .before .before .before .before .before .before .before .before .before .before .before .before .before .before .before .before .before .before .before .before .before .before .before .before .args in told-in (g .sheet .now) (g .room) (g .cut-list .now) (g .row-list .now) (c .before .before .before .before .before .before .before .before .before .before .before .before .before .before .before .before .before .before .before .before .before .usable-places .result) (c .before .before .before .before .before .before .before .before .before .before .before .before .before .before .before .before .before .before .before .before .usable-places2 .result) (c .before .before .before .before .before .before .before .before .before .before .before .before .before .before .before .before .before .run .ensures) (g .cuts .now) (g .rows .now) (c .before .before .before .before .before .before .before .before .before .before .before .before .before .before .before .before .before .before .before .before .before .before .before .before .before .before .before .pre) (c .before .before .before .before .before .before .before .before .before .before .before .before .before .before .before .before .before .before .before .before .before .usable-places .ensures) (c .before .before .before .before .before .before .before .before .before .before .before .before .before .before .before .before .before .before .before .before .usable-places2 .ensures) (c .before .before .before .before .before .before .before .before .before .before .before .cut-values .ensures) (c .before .before .before .before .before .row-values .ensures) (c .answer-number .ensures) (c .before .before .before .before .before .before .before .before .before .put-values .ensures) (c .before .before .before .put-values2 .ensures)
 
 pub run-in-spec : {M : Type 1} → statement M
 run-in-spec =
