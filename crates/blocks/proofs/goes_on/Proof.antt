@@ -1,3 +1,4 @@
+use mathlib.Core.Path.{refl}
 use borrow.Author.Tests.{eq-eqb, ne-eqb}
 use Rattle.task.specs.Task.{at}
 use Rattle.blocks.specs.Blocks.{holds}
@@ -28,7 +29,7 @@ shr-result c = search needs
 -- src/lib.rt:238:1
 returns-2 : tie.Need-returns-2
 unfolding goesOn holds at
-returns-2 c = rw (eq-eqb _ _ (c .before .if1 .left)) (search needs)
+returns-2 c = rw (eq-eqb _ _ (c .before .if1 .left)) refl
 
 pub goes-on-spec : {M : Type 1} → statement M
 goes-on-spec = tie.close (tie.spec returns array-copy-out-p cast-result shr-result returns-2)

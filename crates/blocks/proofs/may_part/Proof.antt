@@ -1,3 +1,4 @@
+use mathlib.Core.Path.{refl}
 use borrow.Author.Tests.{eq-eqb, ne-eqb}
 use Rattle.blocks.specs.Blocks.{isEmpty, without}
 use Rattle.blocks.specs.Masks.{parts}
@@ -19,7 +20,7 @@ returns-2 c = rw (ne-eqb _ _ (c .before .if1 .left), ne-eqb _ _ (c .if2 .taken))
 -- src/lib.rt:209:1
 returns-3 : tie.Need-returns-3
 unfolding parts isEmpty without
-returns-3 c = rw (ne-eqb _ _ (c .before .if1 .left), eq-eqb _ _ (c .if2 .left))
+returns-3 c = rw (ne-eqb _ _ (c .before .if1 .left), eq-eqb _ _ (c .if2 .left)) refl
 
 pub may-part-spec : {M : Type 1} → statement M
 may-part-spec = tie.close (tie.spec returns returns-2 returns-3)

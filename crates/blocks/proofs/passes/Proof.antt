@@ -1,3 +1,5 @@
+use mathlib.Core.Path.{_≡_, refl}
+use mathlib.Core.Bool.{true, false}
 use borrow.Author.Tests.{eq-eqb, ne-eqb}
 use Rattle.blocks.specs.Blocks.{common, isEmpty}
 use Rattle.blocks.specs.Masks.{lies, passes}
@@ -9,12 +11,17 @@ use Rattle.blocks.proofs.passes.Lts as lts
 -- src/lib.rt:143:9
 returns : tie.Need-returns
 unfolding passes lies common isEmpty
-returns c = rw (ne-eqb _ _ (c .if1 .taken))
+returns c = let g = c .before .args in
+    let n : lies (g .need) (g .a) ≡ false = ne-eqb _ _ (c .if1 .taken) in
+    rw n refl
 
 -- src/lib.rt:146:9
 returns-2 : tie.Need-returns-2
 unfolding passes lies common isEmpty
-returns-2 c = rw (eq-eqb _ _ (c .before .if1 .left), ne-eqb _ _ (c .if2 .taken))
+returns-2 c = let g = c .before .before .args in
+    let n : lies (g .need) (g .a) ≡ true = eq-eqb _ _ (c .before .if1 .left) in
+    let l : lies (g .land) (g .b) ≡ false = ne-eqb _ _ (c .if2 .taken) in
+    rw (n, l) refl
 
 -- src/lib.rt:149:9
 returns-3 : tie.Need-returns-3
