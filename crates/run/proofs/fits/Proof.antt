@@ -1,3 +1,7 @@
+use mathlib.Core.Path.{_≡_, refl}
+use mathlib.Core.Bool.{false}
+use lib.Dec.{eqb}
+use lib.ListN.{getD}
 use borrow.Author.Tests.{eq-eqb, ne-eqb}
 use borrow.Author.Needs.{needs}
 use Rattle.run.proofs.fits.Statement.{statement}
@@ -16,7 +20,9 @@ element-copy-out-if1 c = search needs
 
 -- src/lib.rt:85:9
 returns : tie.Need-returns
-returns c = rw (ne-eqb _ _ (c .if1 .taken))
+returns c = let g = c .before .before .args in
+    let e : eqb (getD (g .dist .now) (g .b) 0) (g .rest) ≡ false = ne-eqb _ _ (c .if1 .taken) in
+    rw e refl
 
 -- src/lib.rt:89:14
 cast-t15 : tie.Need-cast-t15

@@ -1,6 +1,8 @@
 use Rattle.run.specs.Hops.{mayTake}
 use borrow.Author.Tests.{lt-ltb, le-ltb, not-true, not-false}
-use mathlib.Core.Path.{sym, _∙_}
+use mathlib.Core.Path.{_≡_, refl}
+use mathlib.Core.Bool.{true, false}
+use Rattle.distances.specs.Arcs.{fitsIn}
 use borrow.Author.Needs.{needs}
 use Rattle.run.proofs.to_try.Statement.{statement}
 use Rattle.run.proofs.to_try.Tie as tie
@@ -41,12 +43,16 @@ fits-in-requires c κs = search needs
 -- src/lib.rt:64:9
 returns-2 : tie.Need-returns-2
 unfolding mayTake
-returns-2 c = rw (le-ltb _ _ (rw (c .before .before .before .weigh .ensures .0) at (c .before .before .if1 .left)), sym (c .before .fits-in .ensures) ∙ not-true _ (c .if2 .taken))
+returns-2 c = let g = c .before .before .before .before .before .before .before .args in
+    let f : fitsIn (g .columns) (g .needs .now) (g .sets .now) (g .s) (g .a) ≡ false = rw (c .before .fits-in .ensures) at (not-true (c .before .fits-in .result) (c .if2 .taken)) in
+    rw (le-ltb _ _ (rw (c .before .before .before .weigh .ensures .0) at (c .before .before .if1 .left)), f) refl
 
 -- src/lib.rt:47:1
 returns-3 : tie.Need-returns-3
 unfolding mayTake
-returns-3 c = rw (le-ltb _ _ (rw (c .before .before .before .weigh .ensures .0) at (c .before .before .if1 .left)), sym (c .before .fits-in .ensures) ∙ not-false _ (c .if2 .left))
+returns-3 c = let g = c .before .before .before .before .before .before .before .args in
+    let f : fitsIn (g .columns) (g .needs .now) (g .sets .now) (g .s) (g .a) ≡ true = rw (c .before .fits-in .ensures) at (not-false (c .before .fits-in .result) (c .if2 .left)) in
+    rw (le-ltb _ _ (rw (c .before .before .before .weigh .ensures .0) at (c .before .before .if1 .left)), f) refl
 
 pub to-try-spec : {M : Type 1} → statement M
 to-try-spec =
