@@ -27,7 +27,7 @@ use Rattle.blocks.proofs.FlatLaws.{blocks-length}
 use Rattle.blocks.proofs.MaskLaws.{leads-by, goal-by, masks-told}
 use Rattle.distances.specs.Distances.{Distance, Hop, AtMost, DistanceIs, leadsTo, isPath, far, farOf, plus, zeroFar, distances}
 use Rattle.distances.specs.Ways.{Path, here, step as hop, NoWorse, noWay, IsDist, AllDist}
-use Rattle.distances.specs.Arcs.{Arc, GoalIn, costIn}
+use Rattle.arcs.specs.Arcs.{Arc, GoalIn, costIn}
 use Rattle.distances.specs.Coded.{coded, decoded, codedAt, codedOver, Tables}
 use Rattle.distances.proofs.LeastLaws.{PathOf, first-of, path-cons, distances-right}
 use Rattle.distances.proofs.TableLaws.{distance-unique, rounds-bound}

@@ -6,6 +6,4 @@ pub mod EstimateLaws
 pub mod DijkstraLaws
 pub mod PickLaws
 pub mod LowerLaws
-pub mod WordLaws
-pub mod ArcLaws
 pub mod JoinLaws

@@ -7,16 +7,16 @@ use Prim.Native.Nat.{ℕ, _+_, _-_, _*_, _/_, _%_, _<_, _≤_}
 use native.Mathlib.Decide.{decLt}
 use native.Mathlib.Omega.{arith}
 use borrow.Author.Count.{below-none, below-more}
-use borrow.Author.Tests.{eq-eqb, ne-eqb}
+use borrow.Author.Tests.{eq-eqb, ne-eqb, eqb-false, lt-ltb, le-ltb}
 use lib.Dec.{eqb}
 use lib.ListN.{length, getD, set}
 use lib.Seq.{getD-set-same, getD-set-other}
 use Rattle.task.proofs.LoopLaws.{and-left, and-right, and-both, true-or-false}
 use Rattle.blocks.specs.Masks.{leadsBy}
-use Rattle.distances.specs.Arcs.{Arc}
-use Rattle.distances.specs.Turns.{weight, Relaxed, Lowered, Started}
+use Rattle.arcs.specs.Arcs.{Arc, fitsIn}
+use Rattle.arcs.specs.Words.{bitAt, inWord, openIn, Opened, told, toldIn}
+use Rattle.distances.specs.Turns.{weight, Relaxed, Lowered, Started, Settled, Open}
 use Rattle.distances.specs.Ways.{noWay}
-use Rattle.distances.specs.Words.{bitAt, inWord}
 
 module _ (f : ℕ → Bool) (k : ℕ) (D : List ℕ) where
   pub lowered-none : Lowered f k 0 D D
@@ -68,6 +68,27 @@ lowered-open f g has k n m D D′ h e out low l =
         | no q ↦ l .rest a (omega arith)
       ];
     }
+
+-- ---- the open blocks
+pub open-made : (count used : ℕ) (D F : List ℕ) (b : ℕ) (O : List ℕ) → Opened used (openIn count F) O → Settled count D F b → Open count used D b O
+unfolding openIn
+open-made count used D F b O o s =
+    record {
+      has = openIn count F;
+      words-of = o;
+      outside = λ a h. rw (le-ltb a count h);
+      low = λ a h e. s .low a h (eqb-false (getD F a 0) 0 (sym (ap (λ t. t && eqb (getD F a 0) 0) (lt-ltb a count h)) ∙ e));
+    }
+
+-- ---- a pass with a test that has a part which is the same everywhere
+module _ (columns few : ℕ) (narrow lands sets able meets left : List ℕ) (s b k n : ℕ) (D D′ : List ℕ) where
+  pub no-landing : fitsIn columns lands sets s b ≡ false → Lowered (toldIn columns few narrow lands sets able meets left s b) k n D D
+  unfolding toldIn
+  no-landing e = lowered-no _ k n D (λ a. rw e)
+
+  pub lands-there : fitsIn columns lands sets s b ≡ true → Lowered (told few narrow lands able meets left s) k n D D′ → Lowered (toldIn columns few narrow lands sets able meets left s b) k n D D′
+  unfolding toldIn
+  lands-there e = lowered-same _ _ k n D D′ (λ a h. rw e)
 
 -- ---- a word of blocks
 module _ (w v : ℕ) where

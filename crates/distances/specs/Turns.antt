@@ -1,10 +1,11 @@
 -- What a turn of the search does: the parts that the private functions' contracts cite.
 use mathlib.Core.Path.{_≡_}
-use mathlib.Core.Bool.{Bool, true, cond}
+use mathlib.Core.Bool.{Bool, true, false, cond}
 use mathlib.Core.Logic.{_⊎_}
 use mathlib.Core.List.{List}
 use Prim.Native.Nat.{ℕ, _+_, _*_, _<_, _≤_}
 use lib.ListN.{getD}
+use Rattle.arcs.specs.Words.{Opened}
 use Rattle.distances.specs.Ways.{noWay}
 
 abbrev pub weight : (ℕ → ℕ) → ℕ → ℕ
@@ -33,6 +34,13 @@ pub record Nearest (n : ℕ) (D F : List ℕ) (b : ℕ) : Type 0 where
 -- a settled block is no farther than b
 pub record Settled (n : ℕ) (D F : List ℕ) (b : ℕ) : Type 0 where
   pub low : (a : ℕ) → a < n → (getD F a 0 ≡ 0 → ⊥) → getD D a 0 ≤ getD D b 0
+
+-- the words of a set of blocks that has every block farther than b
+pub record Open (count used : ℕ) (D : List ℕ) (b : ℕ) (O : List ℕ) : Type 0 where
+  pub has : ℕ → Bool
+  pub words-of : Opened used has O
+  pub outside : (a : ℕ) → count ≤ a → has a ≡ false
+  pub low : (a : ℕ) → a < count → has a ≡ false → getD D a 0 ≤ getD D b 0
 
 -- what the search for a nearest open block answers: the block, or n where none has a value
 pub record Picked (n : ℕ) (D F : List ℕ) (r : ℕ) : Type 0 where

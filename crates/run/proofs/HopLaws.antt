@@ -23,7 +23,7 @@ use Rattle.blocks.proofs.FlatLaws.{blocks-length}
 use Rattle.blocks.proofs.MaskLaws.{leads-by}
 use Rattle.blocks.proofs.PartLaws.{same-or-not}
 use Rattle.distances.specs.Distances.{Distance, Hop, farOf, plus, leadsTo, distances}
-use Rattle.distances.specs.Arcs.{fitsIn}
+use Rattle.arcs.specs.Arcs.{fitsIn}
 use Rattle.distances.specs.Ways.{noWay}
 use Rattle.distances.specs.Coded.{coded, codedAt, Tables}
 use Rattle.distances.proofs.JoinLaws.{far-small}

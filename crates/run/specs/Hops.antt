@@ -12,7 +12,7 @@ use Rattle.task.specs.Task.{Task, step, block}
 use Rattle.blocks.specs.Blocks.{Blocks}
 use Rattle.blocks.specs.Masks.{leadsBy}
 use Rattle.distances.specs.Distances.{Distance, Hop, Table, farOf, distances}
-use Rattle.distances.specs.Arcs.{fitsIn}
+use Rattle.arcs.specs.Arcs.{fitsIn}
 use Rattle.distances.specs.Coded.{codedAt}
 use Rattle.run.specs.Run.{nextHop}
 use Rattle.run.specs.declared.Next.{Next}

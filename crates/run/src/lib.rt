@@ -12,7 +12,7 @@ ghost use Rattle.blocks.specs.Masks.{leadsBy};
 ghost use Rattle.distances.specs.Distances.{distances};
 ghost use Rattle.distances.specs.Coded.{Tables};
 ghost use Rattle.run.specs.Hops.{fitsBy, mayTake, nextBy, hopOf, Holds, NextIs};
-use distances::fits_in;
+use arcs::fits_in;
 use distances::weigh;
 use task::Block;
 use task::Model;

@@ -1,13 +1,13 @@
 use mathlib.Core.Path.{refl, _∙_}
 use Rattle.distances.proofs.DijkstraLaws.{all-zero}
-use Rattle.distances.proofs.WordLaws.{met-zero}
+use Rattle.arcs.proofs.WordLaws.{met-zero}
 use Rattle.distances.proofs.JoinLaws.{all-coded}
 use borrow.Author.Needs.{needs}
 use Rattle.distances.proofs.fill_distances.Statement.{statement}
 use Rattle.distances.proofs.fill_distances.Tie as tie
 use Rattle.distances.proofs.fill_distances.Reads as reads
 use Rattle.distances.proofs.fill_distances.Lts as lts
-use Rattle.distances.proofs.fill_able.Reads as fill-able-reads
+use Rattle.arcs.proofs.fill_able.Reads as fill-able-reads
 use Rattle.distances.proofs.settle.Reads as settle-reads
 use Rattle.distances.proofs.start.Reads as start-reads
 

@@ -1,13 +1,13 @@
 use mathlib.Core.Path.{sym, _∙_}
 use mathlib.Core.List.{[]}
 use borrow.Author.Tests.{not-true, not-false}
-use Rattle.distances.proofs.ArcLaws.{no-landing, lands-there}
+use Rattle.distances.proofs.LowerLaws.{no-landing, lands-there}
 use borrow.Author.Needs.{needs}
 use Rattle.distances.proofs.lower.Statement.{statement}
 use Rattle.distances.proofs.lower.Tie as tie
 use Rattle.distances.proofs.lower.Reads as reads
 use Rattle.distances.proofs.lower.Lts as lts
-use Rattle.distances.proofs.fits_in.Reads as fits-in-reads
+use Rattle.arcs.proofs.fits_in.Reads as fits-in-reads
 use Rattle.distances.proofs.sweep.Reads as sweep-reads
 
 -- src/lib.rt:467:9

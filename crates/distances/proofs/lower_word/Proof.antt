@@ -4,7 +4,7 @@ use mathlib.Core.Path.{_≡_, sym, _∙_, ap}
 use Prim.Native.Nat.{_≤_, _-_, _+_, _*_}
 use native.Mathlib.Omega.{arith}
 use lib.ListN.{length, length-set}
-use Rattle.distances.specs.Words.{inWord}
+use Rattle.arcs.specs.Words.{inWord}
 use Rattle.distances.specs.Turns.{Lowered}
 use Rattle.distances.proofs.LowerLaws.{lowered-skip, lowered-set, lowered-end, in-word, word-start, word-none}
 use borrow.Author.Needs.{needs}
@@ -12,7 +12,7 @@ use Rattle.distances.proofs.lower_word.Statement.{statement}
 use Rattle.distances.proofs.lower_word.Tie as tie
 use Rattle.distances.proofs.lower_word.Reads as reads
 use Rattle.distances.proofs.lower_word.Lts as lts
-use Rattle.distances.proofs.has_bit.Reads as has-bit-reads
+use Rattle.arcs.proofs.has_bit.Reads as has-bit-reads
 
 abbrev Inv-loop : tie.InvT-loop
 Inv-loop w v k dist₀ row i₀ dist i = (i ≤ 32) × (length dist ≡ 256) × Lowered (inWord w v) k (w * 32 + i) dist₀ dist

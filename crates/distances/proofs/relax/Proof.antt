@@ -1,12 +1,12 @@
-use Rattle.distances.proofs.WordLaws.{open-made}
+use Rattle.distances.proofs.LowerLaws.{open-made}
 use borrow.Author.Needs.{needs}
 use Rattle.distances.proofs.relax.Statement.{statement}
 use Rattle.distances.proofs.relax.Tie as tie
 use Rattle.distances.proofs.relax.Reads as reads
 use Rattle.distances.proofs.relax.Lts as lts
-use Rattle.distances.proofs.fill_meets.Reads as fill-meets-reads
-use Rattle.distances.proofs.fill_narrow.Reads as fill-narrow-reads
-use Rattle.distances.proofs.fill_open.Reads as fill-open-reads
+use Rattle.arcs.proofs.fill_meets.Reads as fill-meets-reads
+use Rattle.arcs.proofs.fill_narrow.Reads as fill-narrow-reads
+use Rattle.arcs.proofs.fill_open.Reads as fill-open-reads
 use Rattle.distances.proofs.tries.Reads as tries-reads
 
 -- src/lib.rt:539:5

@@ -2,8 +2,8 @@ use mathlib.Core.Path.{_≡_, refl, _∙_}
 use Prim.Native.Nat.{ℕ, _≤_}
 use native.Mathlib.Omega.{arith}
 use lib.ListN.{length, getD, length-set}
-use Rattle.distances.specs.Arcs.{Arc, GoalIn, costIn}
-use Rattle.distances.specs.Words.{heldIn, Met}
+use Rattle.arcs.specs.Arcs.{Arc, GoalIn, costIn}
+use Rattle.arcs.specs.Words.{heldIn, Met}
 use Rattle.distances.proofs.DijkstraLaws.{Inv, zeros, begin, turn, at-end, small-end, zeros-set, settled-nearest}
 use borrow.Author.Needs.{needs}
 use Rattle.distances.proofs.settle.Statement.{statement}

@@ -3,15 +3,15 @@ use Prim.Native.Nat.{_≤_, _-_, _*_}
 use native.Mathlib.Omega.{arith}
 use lib.ListN.{length}
 use Rattle.distances.specs.Turns.{Lowered}
-use Rattle.distances.specs.Words.{told}
-use Rattle.distances.proofs.ArcLaws.{told-word}
+use Rattle.arcs.specs.Words.{told}
+use Rattle.arcs.proofs.ArcLaws.{told-word}
 use Rattle.distances.proofs.LowerLaws.{lowered-none, lowered-end, word-more}
 use borrow.Author.Needs.{needs}
 use Rattle.distances.proofs.sweep.Statement.{statement}
 use Rattle.distances.proofs.sweep.Tie as tie
 use Rattle.distances.proofs.sweep.Reads as reads
 use Rattle.distances.proofs.sweep.Lts as lts
-use Rattle.distances.proofs.kept_word.Reads as kept-word-reads
+use Rattle.arcs.proofs.kept_word.Reads as kept-word-reads
 use Rattle.distances.proofs.lower_word.Reads as lower-word-reads
 
 abbrev Inv-loop : tie.InvT-loop

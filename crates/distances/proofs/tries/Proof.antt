@@ -3,9 +3,9 @@ use Prim.Native.Nat.{_≤_, _-_, _*_}
 use native.Mathlib.Omega.{arith}
 use lib.ListN.{length}
 use Rattle.blocks.specs.Masks.{leadsBy}
-use Rattle.distances.specs.Arcs.{costIn}
-use Rattle.distances.proofs.WordLaws.{narrow-listed}
-use Rattle.distances.proofs.ArcLaws.{arc-told}
+use Rattle.arcs.specs.Arcs.{costIn}
+use Rattle.arcs.proofs.WordLaws.{narrow-listed}
+use Rattle.arcs.proofs.ArcLaws.{arc-told}
 use Rattle.distances.proofs.LowerLaws.{Part, part-none, part-down, part-more, part-end, lowered-open}
 use borrow.Author.Needs.{needs}
 use Rattle.distances.proofs.tries.Statement.{statement}

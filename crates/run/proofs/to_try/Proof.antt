@@ -8,7 +8,7 @@ use Rattle.run.proofs.to_try.Statement.{statement}
 use Rattle.run.proofs.to_try.Tie as tie
 use Rattle.run.proofs.to_try.Reads as reads
 use Rattle.run.proofs.to_try.Lts as lts
-use Rattle.distances.proofs.fits_in.Reads as fits-in-reads
+use Rattle.arcs.proofs.fits_in.Reads as fits-in-reads
 use Rattle.distances.proofs.weigh.Reads as weigh-reads
 
 -- src/lib.rt:60:8

@@ -1,0 +1,111 @@
+use mathlib.Core.Path.{_≡_, refl}
+use Prim.Native.Nat.{ℕ, _≤_, _<_, _-_}
+use native.Mathlib.Omega.{arith}
+use lib.ListN.{length, getD, length-set}
+use borrow.Author.Count.{below-none}
+use Rattle.blocks.specs.Flat.{past, rowOf}
+use Rattle.arcs.specs.Words.{heldIn, Met}
+use Rattle.arcs.proofs.WordLaws.{filled-first, met-row, met-same, met-more}
+use borrow.Author.Needs.{needs}
+use Rattle.arcs.proofs.fill_meets.Statement.{statement}
+use Rattle.arcs.proofs.fill_meets.Tie as tie
+use Rattle.arcs.proofs.fill_meets.Reads as reads
+use Rattle.arcs.proofs.fill_meets.Lts as lts
+use Rattle.arcs.proofs.renew_column.Reads as renew-column-reads
+
+abbrev Inv-loop : tie.InvT-loop
+Inv-loop columns used b sets held₀ meets₀ rb j₀ held meets j =
+    (j ≤ columns) × (length held ≡ 16) × (length meets ≡ 128) × ((x : ℕ) → x < j → getD held x 0 ≡ past sets (rowOf b) x) × Met columns used sets (heldIn held) meets
+
+abbrev μ-loop : tie.MeasureT-loop
+μ-loop columns used b sets held₀ meets₀ rb j₀ held meets j = columns - j
+
+-- src/lib.rt:209:14
+mul-rb : tie.Need-mul-rb Inv-loop μ-loop
+mul-rb c = search needs
+
+-- src/lib.rt:211:5
+loop-holds : tie.Need-loop-holds Inv-loop μ-loop
+loop-holds c = let p = c .pre in (omega arith, p .0 .3, p .0 .4, below-none _, p .1)
+
+-- src/lib.rt:212:24
+add-set : tie.Need-add-set Inv-loop μ-loop
+add-set c = search needs
+
+-- src/lib.rt:212:19
+mul-set : tie.Need-mul-set Inv-loop μ-loop
+mul-set c = search needs
+
+-- src/lib.rt:212:19
+element-copy-out-set : tie.Need-element-copy-out-set Inv-loop μ-loop
+element-copy-out-set c = search needs
+
+-- src/lib.rt:213:31
+mul-renew-column : tie.Need-mul-renew-column Inv-loop μ-loop
+mul-renew-column c = search needs
+
+-- src/lib.rt:213:31
+element-copy-out-renew-column : tie.Need-element-copy-out-renew-column Inv-loop μ-loop
+element-copy-out-renew-column c = search needs
+
+-- src/lib.rt:213:9
+renew-column-requires : tie.Need-renew-column-requires Inv-loop μ-loop
+renew-column-requires c κs =
+    let l = c .before .before .before .before .loop in
+    ((c .before .before .before .before .before .pre .0 .1, omega arith, l .inv .2), met-row _ _ _ (l .j) _ _ (omega arith) (l .inv .4))
+
+-- src/lib.rt:214:9
+mul-held : tie.Need-mul-held Inv-loop μ-loop
+mul-held c = search needs
+
+-- src/lib.rt:214:9
+element-write-held : tie.Need-element-write-held Inv-loop μ-loop
+element-write-held c = search needs
+
+-- src/lib.rt:215:9
+add-j : tie.Need-add-j Inv-loop μ-loop
+add-j c = search needs
+
+-- src/lib.rt:211:5
+loop-less : tie.Need-loop-less Inv-loop μ-loop
+loop-less c = search needs
+
+-- src/lib.rt:211:5
+loop-again : tie.Need-loop-again Inv-loop μ-loop
+unfolding past
+loop-again c =
+    let l = c .before .before .before .before .before .loop in (
+      omega arith,
+      simp length-set (l .inv .1),
+      c .renew-column .ensures .1,
+      filled-first (past (c .before .before .before .before .before .before .args .sets .now) (rowOf (c .before .before .before .before .before .before .args .b))) (l .j) _ (l .held) (l .inv .3) (omega arith) refl,
+      met-more _ _ _ (l .j) _ (l .held) _ _ (c .before .before .before .before .before .before .pre .0 .1) (omega arith) (l .inv .4) (c .renew-column .ensures .0),
+    )
+
+-- src/lib.rt:198:1
+returns : tie.Need-returns Inv-loop μ-loop
+unfolding heldIn
+returns c =
+    let l = c .before .loop in
+    (l .inv .4, (met-same _ _ _ _ _ _ (λ j h. l .inv .3 j (omega arith)) (l .inv .4), (l .inv .1, l .inv .2)))
+
+pub fill-meets-spec : {M : Type 1} → statement M
+fill-meets-spec =
+    tie.close
+    (tie.spec
+    Inv-loop
+    μ-loop
+    mul-rb
+    loop-holds
+    add-set
+    mul-set
+    element-copy-out-set
+    mul-renew-column
+    element-copy-out-renew-column
+    renew-column-requires
+    mul-held
+    element-write-held
+    add-j
+    loop-less
+    loop-again
+    returns)

@@ -1,0 +1,68 @@
+use mathlib.Core.Path.{_≡_}
+use Prim.Native.Nat.{ℕ, _≤_, _<_, _-_}
+use native.Mathlib.Omega.{arith}
+use lib.ListN.{length, getD, length-set}
+use borrow.Author.Count.{below-none}
+use Rattle.arcs.specs.Words.{wordOf, openIn}
+use Rattle.arcs.proofs.WordLaws.{filled-first}
+use borrow.Author.Needs.{needs}
+use Rattle.arcs.proofs.fill_open.Statement.{statement}
+use Rattle.arcs.proofs.fill_open.Tie as tie
+use Rattle.arcs.proofs.fill_open.Reads as reads
+use Rattle.arcs.proofs.fill_open.Lts as lts
+use Rattle.arcs.proofs.open_word.Reads as open-word-reads
+
+abbrev Inv-loop : tie.InvT-loop
+Inv-loop count used done left₀ w₀ left w = (w ≤ used) × (length left ≡ 8) × ((x : ℕ) → x < w → getD left x 0 ≡ wordOf (openIn count done) x)
+
+abbrev μ-loop : tie.MeasureT-loop
+μ-loop count used done left₀ w₀ left w = used - w
+
+-- src/lib.rt:255:5
+loop-holds : tie.Need-loop-holds Inv-loop μ-loop
+loop-holds c = (omega arith, omega arith, below-none _)
+
+-- src/lib.rt:256:19
+open-word-requires : tie.Need-open-word-requires Inv-loop μ-loop
+open-word-requires c κs = search needs
+
+-- src/lib.rt:256:9
+mul-left : tie.Need-mul-left Inv-loop μ-loop
+mul-left c = search needs
+
+-- src/lib.rt:256:9
+element-write-left : tie.Need-element-write-left Inv-loop μ-loop
+element-write-left c = search needs
+
+-- src/lib.rt:257:9
+add-w : tie.Need-add-w Inv-loop μ-loop
+add-w c = search needs
+
+-- src/lib.rt:255:5
+loop-less : tie.Need-loop-less Inv-loop μ-loop
+loop-less c = search needs
+
+-- src/lib.rt:255:5
+loop-again : tie.Need-loop-again Inv-loop μ-loop
+loop-again c =
+    let l = c .before .before .loop in
+    (omega arith, simp length-set (l .inv .1), filled-first _ (l .w) _ (l .left) (l .inv .2) (omega arith) (c .open-word .ensures))
+
+-- src/lib.rt:245:1
+returns : tie.Need-returns Inv-loop μ-loop
+returns c = (record { each = λ x h. c .before .loop .inv .2 x (omega arith) }, c .before .loop .inv .1)
+
+pub fill-open-spec : {M : Type 1} → statement M
+fill-open-spec =
+    tie.close
+    (tie.spec
+    Inv-loop
+    μ-loop
+    loop-holds
+    open-word-requires
+    mul-left
+    element-write-left
+    add-w
+    loop-less
+    loop-again
+    returns)

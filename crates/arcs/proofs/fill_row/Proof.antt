@@ -1,0 +1,86 @@
+use mathlib.Core.Path.{_≡_, refl, _∙_}
+use Prim.Native.Nat.{ℕ, _≤_, _<_, _-_, _+_, _*_}
+use native.Mathlib.Omega.{arith}
+use lib.ListN.{length, getD, length-set}
+use lib.Seq.{getD-set-other}
+use borrow.Author.Count.{below-none}
+use Rattle.arcs.specs.Arcs.{fitsIn}
+use Rattle.arcs.specs.Words.{wordOf}
+use Rattle.arcs.proofs.WordLaws.{filled-more}
+use borrow.Author.Needs.{needs}
+use Rattle.arcs.proofs.fill_row.Statement.{statement}
+use Rattle.arcs.proofs.fill_row.Tie as tie
+use Rattle.arcs.proofs.fill_row.Reads as reads
+use Rattle.arcs.proofs.fill_row.Lts as lts
+use Rattle.arcs.proofs.able_word.Reads as able-word-reads
+
+abbrev Inv-loop : tie.InvT-loop
+Inv-loop columns steps w needs sets able₀ row s₀ able s =
+    (s ≤ steps) × (length able ≡ 1024) × ((x : ℕ) → x < s → getD able (w * 128 + x) 0 ≡ wordOf (fitsIn columns needs sets x) w) × ((i : ℕ) → i < w * 128 → getD able i 0 ≡ getD able₀ i 0)
+
+abbrev μ-loop : tie.MeasureT-loop
+μ-loop columns steps w needs sets able₀ row s₀ able s = steps - s
+
+-- src/lib.rt:118:15
+mul-row : tie.Need-mul-row Inv-loop μ-loop
+mul-row c = search needs
+
+-- src/lib.rt:120:5
+loop-holds : tie.Need-loop-holds Inv-loop μ-loop
+loop-holds c = (omega arith, omega arith, below-none _, (λ i h. refl))
+
+-- src/lib.rt:121:25
+able-word-requires : tie.Need-able-word-requires Inv-loop μ-loop
+able-word-requires c κs = search needs
+
+-- src/lib.rt:121:14
+add-able : tie.Need-add-able Inv-loop μ-loop
+add-able c = search needs
+
+-- src/lib.rt:121:9
+mul-able : tie.Need-mul-able Inv-loop μ-loop
+mul-able c = search needs
+
+-- src/lib.rt:121:9
+element-write-able : tie.Need-element-write-able Inv-loop μ-loop
+element-write-able c = search needs
+
+-- src/lib.rt:122:9
+add-s : tie.Need-add-s Inv-loop μ-loop
+add-s c = search needs
+
+-- src/lib.rt:120:5
+loop-less : tie.Need-loop-less Inv-loop μ-loop
+loop-less c = search needs
+
+-- src/lib.rt:120:5
+loop-again : tie.Need-loop-again Inv-loop μ-loop
+loop-again c =
+    let w = c .before .before .before .args .w in
+    let l = c .before .before .loop in (
+      omega arith,
+      simp length-set (l .inv .1),
+      filled-more (λ x. wordOf (fitsIn (c .before .before .before .args .columns) (c .before .before .before .args .needs .now) (c .before .before .before .args .sets .now) x) w) (w * 128) (l .s) _ (l .able) (l .inv .2) (omega arith) (c .able-word .ensures),
+      (λ i h. getD-set-other (l .able) (w * 128 + l .s) i _ 0 (λ q. omega arith) ∙ l .inv .3 i h),
+    )
+
+-- src/lib.rt:107:1
+returns : tie.Need-returns Inv-loop μ-loop
+returns c = let l = c .before .loop in (record { each = λ x h. l .inv .2 x (omega arith); before = l .inv .3 }, l .inv .1)
+
+pub fill-row-spec : {M : Type 1} → statement M
+fill-row-spec =
+    tie.close
+    (tie.spec
+    Inv-loop
+    μ-loop
+    mul-row
+    loop-holds
+    able-word-requires
+    add-able
+    mul-able
+    element-write-able
+    add-s
+    loop-less
+    loop-again
+    returns)

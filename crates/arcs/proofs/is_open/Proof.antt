@@ -1,0 +1,24 @@
+use Rattle.arcs.specs.Words.{openIn}
+use borrow.Author.Tests.{lt-ltb, le-ltb}
+use borrow.Author.Needs.{needs}
+use Rattle.arcs.proofs.is_open.Statement.{statement}
+use Rattle.arcs.proofs.is_open.Tie as tie
+use Rattle.arcs.proofs.is_open.Reads as reads
+use Rattle.arcs.proofs.is_open.Lts as lts
+
+-- src/lib.rt:225:9
+returns : tie.Need-returns
+unfolding openIn
+returns c = rw (le-ltb _ _ (c .if1 .taken))
+
+-- src/lib.rt:227:5
+element-copy-out-result : tie.Need-element-copy-out-result
+element-copy-out-result c = search needs
+
+-- src/lib.rt:220:1
+returns-2 : tie.Need-returns-2
+unfolding openIn
+returns-2 c = rw (lt-ltb _ _ (c .before .if1 .left))
+
+pub is-open-spec : {M : Type 1} → statement M
+is-open-spec = tie.close (tie.spec returns element-copy-out-result returns-2)

@@ -1,0 +1,114 @@
+use Rattle.blocks.specs.Flat.{past}
+use Rattle.arcs.proofs.ArcLaws.{kept-none, kept-more, kept-zero}
+use Rattle.arcs.specs.Words.{keptWord}
+use native.Mathlib.Omega.{arith}
+use Prim.Native.Nat.{_≤_, _-_}
+use mathlib.Core.Path.{_≡_, sym, _∙_}
+use borrow.Author.Needs.{needs}
+use Rattle.arcs.proofs.kept_word.Statement.{statement}
+use Rattle.arcs.proofs.kept_word.Tie as tie
+use Rattle.arcs.proofs.kept_word.Reads as reads
+use Rattle.arcs.proofs.kept_word.Lts as lts
+use Rattle.arcs.proofs.kept_part.Reads as kept-part-reads
+
+abbrev Inv-loop : tie.InvT-loop
+Inv-loop few s w first narrow lands meets rs v₀ i₀ v i = (i ≤ few) × (v ≡ keptWord narrow lands meets s w first i)
+
+abbrev μ-loop : tie.MeasureT-loop
+μ-loop few s w first narrow lands meets rs v₀ i₀ v i = few - i
+
+-- src/lib.rt:381:14
+mul-rs : tie.Need-mul-rs Inv-loop μ-loop
+mul-rs c = search needs
+
+-- src/lib.rt:384:5
+loop-holds : tie.Need-loop-holds Inv-loop μ-loop
+loop-holds c = (omega arith, kept-none _ _ _ _ _ _)
+
+-- src/lib.rt:386:13
+returns : tie.Need-returns Inv-loop μ-loop
+returns c = sym (kept-zero _ _ _ _ _ _ (c .before .before .loop .i) _ (omega arith) (sym (c .before .before .loop .inv .1) ∙ c .if1 .taken))
+
+-- src/lib.rt:388:17
+mul-j : tie.Need-mul-j Inv-loop μ-loop
+mul-j c = search needs
+
+-- src/lib.rt:388:17
+element-copy-out-j : tie.Need-element-copy-out-j Inv-loop μ-loop
+element-copy-out-j c = search needs
+
+-- src/lib.rt:389:32
+add-kept-part : tie.Need-add-kept-part Inv-loop μ-loop
+add-kept-part c = omega (arith, c .before .before .before .before .pre .1 .each (c .before .before .before .loop .i) (c .before .before .loop-test .taken))
+
+-- src/lib.rt:389:26
+mul-kept-part : tie.Need-mul-kept-part Inv-loop μ-loop
+mul-kept-part c = omega (arith, c .before .before .before .before .pre .1 .each (c .before .before .before .loop .i) (c .before .before .loop-test .taken))
+
+-- src/lib.rt:389:26
+element-copy-out-kept-part : tie.Need-element-copy-out-kept-part Inv-loop μ-loop
+element-copy-out-kept-part c = omega (arith, c .before .before .before .before .pre .1 .each (c .before .before .before .loop .i) (c .before .before .loop-test .taken))
+
+-- src/lib.rt:389:47
+mul-kept-part-2 : tie.Need-mul-kept-part-2 Inv-loop μ-loop
+mul-kept-part-2 c = omega (arith, c .before .before .before .before .before .pre .1 .each (c .before .before .before .before .loop .i) (c .before .before .before .loop-test .taken))
+
+-- src/lib.rt:389:47
+add-kept-part-2 : tie.Need-add-kept-part-2 Inv-loop μ-loop
+add-kept-part-2 c = omega (arith, c .before .before .before .before .before .pre .1 .each (c .before .before .before .before .loop .i) (c .before .before .before .loop-test .taken))
+
+-- src/lib.rt:389:41
+mul-kept-part-3 : tie.Need-mul-kept-part-3 Inv-loop μ-loop
+mul-kept-part-3 c = omega (arith, c .before .before .before .before .before .pre .1 .each (c .before .before .before .before .loop .i) (c .before .before .before .loop-test .taken))
+
+-- src/lib.rt:389:41
+element-copy-out-kept-part-2 : tie.Need-element-copy-out-kept-part-2 Inv-loop μ-loop
+element-copy-out-kept-part-2 c = omega (arith, c .before .before .before .before .before .pre .1 .each (c .before .before .before .before .loop .i) (c .before .before .before .loop-test .taken))
+
+-- src/lib.rt:389:9
+kept-part-requires : tie.Need-kept-part-requires Inv-loop μ-loop
+kept-part-requires c κs = search needs
+
+-- src/lib.rt:390:9
+add-i : tie.Need-add-i Inv-loop μ-loop
+add-i c = search needs
+
+-- src/lib.rt:384:5
+loop-less : tie.Need-loop-less Inv-loop μ-loop
+loop-less c = search needs
+
+-- src/lib.rt:384:5
+loop-again : tie.Need-loop-again Inv-loop μ-loop
+unfolding past
+loop-again c = let l = c .before .before .before .before .before .before .loop in (omega arith, kept-more _ _ _ _ _ _ (l .i) _ _ (l .inv .1) (c .kept-part .ensures))
+
+-- src/lib.rt:369:1
+returns-2 : tie.Need-returns-2 Inv-loop μ-loop
+returns-2 c =
+    let l = c .before .loop in
+    let e : l .i ≡ c .before .before .args .few = omega arith in
+    rw e at (l .inv .1)
+
+pub kept-word-spec : {M : Type 1} → statement M
+kept-word-spec =
+    tie.close
+    (tie.spec
+    Inv-loop
+    μ-loop
+    mul-rs
+    loop-holds
+    returns
+    mul-j
+    element-copy-out-j
+    add-kept-part
+    mul-kept-part
+    element-copy-out-kept-part
+    mul-kept-part-2
+    add-kept-part-2
+    mul-kept-part-3
+    element-copy-out-kept-part-2
+    kept-part-requires
+    add-i
+    loop-less
+    loop-again
+    returns-2)

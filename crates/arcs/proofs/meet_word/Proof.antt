@@ -1,0 +1,97 @@
+use mathlib.Core.Path.{_≡_, sym}
+use Prim.Native.Nat.{_≤_, _-_}
+use native.Mathlib.Omega.{arith}
+use Rattle.arcs.specs.Words.{bitsBelow, nth, wordOf, meetsIn}
+use Rattle.arcs.proofs.WordLaws.{bits-none, mask-room, mask-more}
+use Rattle.blocks.specs.Flat.{past}
+use Rattle.blocks.specs.Blocks.{common, isEmpty}
+use borrow.Author.Needs.{needs}
+use Rattle.arcs.proofs.meet_word.Statement.{statement}
+use Rattle.arcs.proofs.meet_word.Tie as tie
+use Rattle.arcs.proofs.meet_word.Reads as reads
+use Rattle.arcs.proofs.meet_word.Lts as lts
+use Rattle.arcs.proofs.bit_if.Reads as bit-if-reads
+
+abbrev Inv-loop : tie.InvT-loop
+Inv-loop w j set sets v₀ i₀ v i = (i ≤ 32) × (v ≡ bitsBelow (nth (meetsIn sets set j) w) i)
+
+abbrev μ-loop : tie.MeasureT-loop
+μ-loop w j set sets v₀ i₀ v i = 32 - i
+
+-- src/lib.rt:152:5
+loop-holds : tie.Need-loop-holds Inv-loop μ-loop
+loop-holds c = (omega arith, sym (bits-none _))
+
+-- src/lib.rt:153:19
+mul-at : tie.Need-mul-at Inv-loop μ-loop
+mul-at c = search needs
+
+-- src/lib.rt:153:19
+add-at : tie.Need-add-at Inv-loop μ-loop
+add-at c = search needs
+
+-- src/lib.rt:153:18
+mul-at-2 : tie.Need-mul-at-2 Inv-loop μ-loop
+mul-at-2 c = search needs
+
+-- src/lib.rt:153:18
+add-at-2 : tie.Need-add-at-2 Inv-loop μ-loop
+add-at-2 c = search needs
+
+-- src/lib.rt:154:21
+mul-bit-if : tie.Need-mul-bit-if Inv-loop μ-loop
+mul-bit-if c = search needs
+
+-- src/lib.rt:154:21
+element-copy-out-bit-if : tie.Need-element-copy-out-bit-if Inv-loop μ-loop
+element-copy-out-bit-if c = search needs
+
+-- src/lib.rt:154:14
+bit-if-requires : tie.Need-bit-if-requires Inv-loop μ-loop
+bit-if-requires c κs = search needs
+
+-- src/lib.rt:154:9
+add-v : tie.Need-add-v Inv-loop μ-loop
+unfolding nth meetsIn past common isEmpty
+add-v c = let l = c .before .before .before .loop in omega (arith, mask-room _ (l .i) (l .v) (c .bit-if .result) (l .inv .1) (c .bit-if .ensures) (omega arith))
+
+-- src/lib.rt:155:9
+add-i : tie.Need-add-i Inv-loop μ-loop
+add-i c = search needs
+
+-- src/lib.rt:152:5
+loop-less : tie.Need-loop-less Inv-loop μ-loop
+loop-less c = search needs
+
+-- src/lib.rt:152:5
+loop-again : tie.Need-loop-again Inv-loop μ-loop
+unfolding nth meetsIn past common isEmpty
+loop-again c = let l = c .before .before .before .loop in (omega arith, mask-more _ (l .i) (l .v) _ (l .inv .1) (c .bit-if .ensures))
+
+-- src/lib.rt:146:1
+returns : tie.Need-returns Inv-loop μ-loop
+unfolding wordOf
+returns c =
+    let l = c .before .loop in
+    let e : l .i ≡ 32 = omega arith in
+    rw e at (l .inv .1)
+
+pub meet-word-spec : {M : Type 1} → statement M
+meet-word-spec =
+    tie.close
+    (tie.spec
+    Inv-loop
+    μ-loop
+    loop-holds
+    mul-at
+    add-at
+    mul-at-2
+    add-at-2
+    mul-bit-if
+    element-copy-out-bit-if
+    bit-if-requires
+    add-v
+    add-i
+    loop-less
+    loop-again
+    returns)

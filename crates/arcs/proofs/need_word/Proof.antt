@@ -1,0 +1,103 @@
+use mathlib.Core.Path.{_≡_, sym, _∙_, ap}
+use Prim.Native.Nat.{_≤_, _-_, _^_}
+use native.Mathlib.Omega.{arith}
+use mathlib.Core.Bool.{cond}
+use Rattle.arcs.specs.Words.{bitsBelow, nth, wordOf, needIn}
+use Rattle.arcs.proofs.WordLaws.{bits-none, mask-room, mask-more}
+use Rattle.blocks.specs.Flat.{past}
+use borrow.Author.Needs.{needs}
+use Rattle.arcs.proofs.need_word.Statement.{statement}
+use Rattle.arcs.proofs.need_word.Tie as tie
+use Rattle.arcs.proofs.need_word.Reads as reads
+use Rattle.arcs.proofs.need_word.Lts as lts
+use Rattle.blocks.proofs.lies.Reads as lies-reads
+use Rattle.arcs.proofs.bit_if.Reads as bit-if-reads
+
+abbrev Inv-loop : tie.InvT-loop
+Inv-loop w j need sets v₀ i₀ v i = (i ≤ 32) × (v ≡ bitsBelow (nth (needIn sets need j) w) i)
+
+abbrev μ-loop : tie.MeasureT-loop
+μ-loop w j need sets v₀ i₀ v i = 32 - i
+
+-- src/lib.rt:63:5
+loop-holds : tie.Need-loop-holds Inv-loop μ-loop
+loop-holds c = (omega arith, sym (bits-none _))
+
+-- src/lib.rt:64:19
+mul-at : tie.Need-mul-at Inv-loop μ-loop
+mul-at c = search needs
+
+-- src/lib.rt:64:19
+add-at : tie.Need-add-at Inv-loop μ-loop
+add-at c = search needs
+
+-- src/lib.rt:64:18
+mul-at-2 : tie.Need-mul-at-2 Inv-loop μ-loop
+mul-at-2 c = search needs
+
+-- src/lib.rt:64:18
+add-at-2 : tie.Need-add-at-2 Inv-loop μ-loop
+add-at-2 c = search needs
+
+-- src/lib.rt:65:40
+mul-lies : tie.Need-mul-lies Inv-loop μ-loop
+mul-lies c = search needs
+
+-- src/lib.rt:65:40
+element-copy-out-lies : tie.Need-element-copy-out-lies Inv-loop μ-loop
+element-copy-out-lies c = search needs
+
+-- src/lib.rt:65:21
+lies-requires : tie.Need-lies-requires Inv-loop μ-loop
+lies-requires c κs = search needs
+
+-- src/lib.rt:65:14
+bit-if-requires : tie.Need-bit-if-requires Inv-loop μ-loop
+bit-if-requires c κs = search needs
+
+-- src/lib.rt:65:9
+add-v : tie.Need-add-v Inv-loop μ-loop
+unfolding nth needIn past
+add-v c = let l = c .before .before .before .before .loop in omega (arith, mask-room _ (l .i) (l .v) (c .bit-if .result) (l .inv .1) (c .bit-if .ensures ∙ ap (λ t. cond t (2 ^ l .i) 0) (c .before .lies .ensures)) (omega arith))
+
+-- src/lib.rt:66:9
+add-i : tie.Need-add-i Inv-loop μ-loop
+add-i c = search needs
+
+-- src/lib.rt:63:5
+loop-less : tie.Need-loop-less Inv-loop μ-loop
+loop-less c = search needs
+
+-- src/lib.rt:63:5
+loop-again : tie.Need-loop-again Inv-loop μ-loop
+unfolding nth needIn past
+loop-again c = let l = c .before .before .before .before .loop in (omega arith, mask-more _ (l .i) (l .v) _ (l .inv .1) (c .bit-if .ensures ∙ ap (λ t. cond t (2 ^ l .i) 0) (c .before .lies .ensures)))
+
+-- src/lib.rt:57:1
+returns : tie.Need-returns Inv-loop μ-loop
+unfolding wordOf
+returns c =
+    let l = c .before .loop in
+    let e : l .i ≡ 32 = omega arith in
+    rw e at (l .inv .1)
+
+pub need-word-spec : {M : Type 1} → statement M
+need-word-spec =
+    tie.close
+    (tie.spec
+    Inv-loop
+    μ-loop
+    loop-holds
+    mul-at
+    add-at
+    mul-at-2
+    add-at-2
+    mul-lies
+    element-copy-out-lies
+    lies-requires
+    bit-if-requires
+    add-v
+    add-i
+    loop-less
+    loop-again
+    returns)

@@ -1,0 +1,22 @@
+use Rattle.arcs.proofs.WordLaws.{row-same}
+use borrow.Author.Needs.{needs}
+use Rattle.arcs.proofs.renew_column.Statement.{statement}
+use Rattle.arcs.proofs.renew_column.Tie as tie
+use Rattle.arcs.proofs.renew_column.Reads as reads
+use Rattle.arcs.proofs.renew_column.Lts as lts
+use Rattle.arcs.proofs.fill_column.Reads as fill-column-reads
+
+-- src/lib.rt:192:9
+returns : tie.Need-returns
+returns c = (row-same _ _ _ _ _ _ (c .if1 .taken) (c .before .pre .1), search needs)
+
+-- src/lib.rt:194:5
+fill-column-requires : tie.Need-fill-column-requires
+fill-column-requires c κs = search needs
+
+-- src/lib.rt:180:1
+returns-2 : tie.Need-returns-2
+returns-2 c = search needs
+
+pub renew-column-spec : {M : Type 1} → statement M
+renew-column-spec = tie.close (tie.spec returns fill-column-requires returns-2)

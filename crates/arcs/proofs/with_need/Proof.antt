@@ -1,0 +1,27 @@
+use native.Mathlib.Omega.{arith}
+use Rattle.arcs.proofs.WordLaws.{no-need}
+use borrow.Author.Needs.{needs}
+use Rattle.arcs.proofs.with_need.Statement.{statement}
+use Rattle.arcs.proofs.with_need.Tie as tie
+use Rattle.arcs.proofs.with_need.Reads as reads
+use Rattle.arcs.proofs.with_need.Lts as lts
+use Rattle.arcs.proofs.need_word.Reads as need-word-reads
+
+-- src/lib.rt:77:9
+returns : tie.Need-returns
+returns c = rw (c .if1 .taken)
+
+-- src/lib.rt:80:9
+returns-2 : tie.Need-returns-2
+returns-2 c = rw (c .if2 .taken) (no-need _ _ _ _ (omega arith))
+
+-- src/lib.rt:82:9
+need-word-requires : tie.Need-need-word-requires
+need-word-requires c κs = search needs
+
+-- src/lib.rt:72:1
+returns-3 : tie.Need-returns-3
+returns-3 c = rw (c .need-word .ensures)
+
+pub with-need-spec : {M : Type 1} → statement M
+with-need-spec = tie.close (tie.spec returns returns-2 need-word-requires returns-3)
