@@ -46,22 +46,6 @@ bits-lt f (suc k) = rw two-pow-succ (go (f k) (bits-lt f k))
     go true l = omega arith
     go false l = omega arith
 
-pub bits-none : (f : ℕ → Bool) → bitsBelow f 0 ≡ 0
-unfolding bitsBelow
-bits-none f = refl
-
--- a mask that is made bit by bit
-module _ (f : ℕ → Bool) (k w r : ℕ) (is : w ≡ bitsBelow f k) (new : r ≡ cond (f k) (2 ^ k) 0) where
-  pub mask-more : w + r ≡ bitsBelow f (k + 1)
-  unfolding bitsBelow
-  mask-more = rw (add-one, is, new)
-
-  pub mask-room : k < 32 → w + r < 4294967296
-  mask-room h =
-      let l = bits-lt f (k + 1) in
-      let p : 2 ^ (k + 1) ≤ 2 ^ 32 = pow-mono {i = k + 1} {j = 32} (omega arith) in
-      omega (arith, mask-more)
-
 bit-and : (a b : Bool) → bitAnd (bit a) (bit b) ≡ bit (a && b)
 unfolding bit
 bit-and true true = refl
@@ -153,6 +137,32 @@ unfolding wordOf nth
 word-told f a =
     let e : a / 32 * 32 + a % 32 ≡ a = omega arith in
     bit-told (λ i. f (a / 32 * 32 + i)) (a % 32) 32 (omega arith) ∙ ap f e
+
+-- ---- a word that is made bit by bit: its first i bits
+pub record Begun (f : ℕ → Bool) (w i v : ℕ) : Type 0 where
+  pub within : i ≤ 32
+  pub bits : v ≡ bitsBelow (nth f w) i
+
+module _ (f : ℕ → Bool) (w : ℕ) where
+  pub begun-none : Begun f w 0 0
+  unfolding bitsBelow
+  begun-none = record { within = omega arith; bits = refl }
+
+  pub begun-end : {i v : ℕ} → Begun f w i v → 32 ≤ i → v ≡ wordOf f w
+  unfolding wordOf
+  begun-end {i} p h = let l = p .within in let e : i ≡ 32 = omega arith in rw e at (p .bits)
+
+  -- one bit more, by the test of its block
+  module _ {i v r : ℕ} {t : Bool} (p : Begun f w i v) (more : i < 32) (test : t ≡ f (w * 32 + i)) (new : r ≡ cond t (2 ^ i) 0) where
+    pub begun-more : Begun f w (i + 1) (v + r)
+    unfolding bitsBelow nth
+    begun-more = record { within = omega arith; bits = rw (add-one, p .bits, new, test) refl }
+
+    pub begun-room : v + r < 4294967296
+    begun-room =
+        let l = bits-lt (nth f w) (i + 1) in
+        let s : 2 ^ (i + 1) ≤ 2 ^ 32 = pow-mono {i = i + 1} {j = 32} (omega arith) in
+        omega (arith, begun-more .bits)
 
 -- a need that is none is held by every block
 pub no-need : (v : ℕ) (sets : List ℕ) (j w : ℕ) → v < 4294967296 → v ≡ bitAnd v (wordOf (needIn sets 0 j) w)

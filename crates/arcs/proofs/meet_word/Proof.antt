@@ -1,8 +1,8 @@
-use mathlib.Core.Path.{_≡_, sym}
-use Prim.Native.Nat.{_≤_, _-_}
+use mathlib.Core.Path.{refl}
+use Prim.Native.Nat.{_-_}
 use native.Mathlib.Omega.{arith}
-use Rattle.arcs.specs.Words.{bitsBelow, nth, wordOf, meetsIn}
-use Rattle.arcs.proofs.WordLaws.{bits-none, mask-room, mask-more}
+use Rattle.arcs.specs.Words.{meetsIn}
+use Rattle.arcs.proofs.WordLaws.{Begun, begun-none, begun-more, begun-room, begun-end}
 use Rattle.blocks.specs.Flat.{past}
 use Rattle.blocks.specs.Blocks.{common, isEmpty}
 use borrow.Author.Needs.{needs}
@@ -13,14 +13,14 @@ use Rattle.arcs.proofs.meet_word.Lts as lts
 use Rattle.arcs.proofs.bit_if.Reads as bit-if-reads
 
 abbrev Inv-loop : tie.InvT-loop
-Inv-loop w j set sets v₀ i₀ v i = (i ≤ 32) × (v ≡ bitsBelow (nth (meetsIn sets set j) w) i)
+Inv-loop w j set sets v₀ i₀ v i = Begun (meetsIn sets set j) w i v
 
 abbrev μ-loop : tie.MeasureT-loop
 μ-loop w j set sets v₀ i₀ v i = 32 - i
 
 -- src/lib.rt:152:5
 loop-holds : tie.Need-loop-holds Inv-loop μ-loop
-loop-holds c = (omega arith, sym (bits-none _))
+loop-holds c = begun-none _ _
 
 -- src/lib.rt:153:19
 mul-at : tie.Need-mul-at Inv-loop μ-loop
@@ -52,8 +52,8 @@ bit-if-requires c κs = search needs
 
 -- src/lib.rt:154:9
 add-v : tie.Need-add-v Inv-loop μ-loop
-unfolding nth meetsIn past common isEmpty
-add-v c = let l = c .before .before .before .loop in omega (arith, mask-room _ (l .i) (l .v) (c .bit-if .result) (l .inv .1) (c .bit-if .ensures) (omega arith))
+unfolding meetsIn past common isEmpty
+add-v c = omega (arith, begun-room _ _ (c .before .before .before .loop .inv) (omega arith) refl (c .bit-if .ensures))
 
 -- src/lib.rt:155:9
 add-i : tie.Need-add-i Inv-loop μ-loop
@@ -65,16 +65,12 @@ loop-less c = search needs
 
 -- src/lib.rt:152:5
 loop-again : tie.Need-loop-again Inv-loop μ-loop
-unfolding nth meetsIn past common isEmpty
-loop-again c = let l = c .before .before .before .loop in (omega arith, mask-more _ (l .i) (l .v) _ (l .inv .1) (c .bit-if .ensures))
+unfolding meetsIn past common isEmpty
+loop-again c = begun-more _ _ (c .before .before .before .loop .inv) (omega arith) refl (c .bit-if .ensures)
 
 -- src/lib.rt:146:1
 returns : tie.Need-returns Inv-loop μ-loop
-unfolding wordOf
-returns c =
-    let l = c .before .loop in
-    let e : l .i ≡ 32 = omega arith in
-    rw e at (l .inv .1)
+returns c = begun-end _ _ (c .before .loop .inv) (omega arith)
 
 pub meet-word-spec : {M : Type 1} → statement M
 meet-word-spec =

@@ -1,9 +1,7 @@
-use mathlib.Core.Path.{_≡_, sym, _∙_, ap}
-use Prim.Native.Nat.{_≤_, _-_, _^_}
+use Prim.Native.Nat.{_-_}
 use native.Mathlib.Omega.{arith}
-use mathlib.Core.Bool.{cond}
-use Rattle.arcs.specs.Words.{bitsBelow, nth, wordOf, needIn}
-use Rattle.arcs.proofs.WordLaws.{bits-none, mask-room, mask-more}
+use Rattle.arcs.specs.Words.{needIn}
+use Rattle.arcs.proofs.WordLaws.{Begun, begun-none, begun-more, begun-room, begun-end}
 use Rattle.blocks.specs.Flat.{past}
 use borrow.Author.Needs.{needs}
 use Rattle.arcs.proofs.need_word.Statement.{statement}
@@ -14,14 +12,14 @@ use Rattle.blocks.proofs.lies.Reads as lies-reads
 use Rattle.arcs.proofs.bit_if.Reads as bit-if-reads
 
 abbrev Inv-loop : tie.InvT-loop
-Inv-loop w j need sets v₀ i₀ v i = (i ≤ 32) × (v ≡ bitsBelow (nth (needIn sets need j) w) i)
+Inv-loop w j need sets v₀ i₀ v i = Begun (needIn sets need j) w i v
 
 abbrev μ-loop : tie.MeasureT-loop
 μ-loop w j need sets v₀ i₀ v i = 32 - i
 
 -- src/lib.rt:63:5
 loop-holds : tie.Need-loop-holds Inv-loop μ-loop
-loop-holds c = (omega arith, sym (bits-none _))
+loop-holds c = begun-none _ _
 
 -- src/lib.rt:64:19
 mul-at : tie.Need-mul-at Inv-loop μ-loop
@@ -57,8 +55,8 @@ bit-if-requires c κs = search needs
 
 -- src/lib.rt:65:9
 add-v : tie.Need-add-v Inv-loop μ-loop
-unfolding nth needIn past
-add-v c = let l = c .before .before .before .before .loop in omega (arith, mask-room _ (l .i) (l .v) (c .bit-if .result) (l .inv .1) (c .bit-if .ensures ∙ ap (λ t. cond t (2 ^ l .i) 0) (c .before .lies .ensures)) (omega arith))
+unfolding needIn past
+add-v c = omega (arith, begun-room _ _ (c .before .before .before .before .loop .inv) (omega arith) (c .before .lies .ensures) (c .bit-if .ensures))
 
 -- src/lib.rt:66:9
 add-i : tie.Need-add-i Inv-loop μ-loop
@@ -70,16 +68,12 @@ loop-less c = search needs
 
 -- src/lib.rt:63:5
 loop-again : tie.Need-loop-again Inv-loop μ-loop
-unfolding nth needIn past
-loop-again c = let l = c .before .before .before .before .loop in (omega arith, mask-more _ (l .i) (l .v) _ (l .inv .1) (c .bit-if .ensures ∙ ap (λ t. cond t (2 ^ l .i) 0) (c .before .lies .ensures)))
+unfolding needIn past
+loop-again c = begun-more _ _ (c .before .before .before .before .loop .inv) (omega arith) (c .before .lies .ensures) (c .bit-if .ensures)
 
 -- src/lib.rt:57:1
 returns : tie.Need-returns Inv-loop μ-loop
-unfolding wordOf
-returns c =
-    let l = c .before .loop in
-    let e : l .i ≡ 32 = omega arith in
-    rw e at (l .inv .1)
+returns c = begun-end _ _ (c .before .loop .inv) (omega arith)
 
 pub need-word-spec : {M : Type 1} → statement M
 need-word-spec =

@@ -1,9 +1,7 @@
-use mathlib.Core.Path.{_≡_, sym, _∙_, ap}
-use Prim.Native.Nat.{_≤_, _-_, _^_}
+use Prim.Native.Nat.{_-_}
 use native.Mathlib.Omega.{arith}
-use mathlib.Core.Bool.{cond}
-use Rattle.arcs.specs.Words.{bitsBelow, nth, wordOf, openIn}
-use Rattle.arcs.proofs.WordLaws.{bits-none, mask-room, mask-more}
+use Rattle.arcs.specs.Words.{openIn}
+use Rattle.arcs.proofs.WordLaws.{Begun, begun-none, begun-more, begun-room, begun-end}
 use borrow.Author.Needs.{needs}
 use Rattle.arcs.proofs.open_word.Statement.{statement}
 use Rattle.arcs.proofs.open_word.Tie as tie
@@ -13,14 +11,14 @@ use Rattle.arcs.proofs.bit_if.Reads as bit-if-reads
 use Rattle.arcs.proofs.is_open.Reads as is-open-reads
 
 abbrev Inv-loop : tie.InvT-loop
-Inv-loop count w done v₀ i₀ v i = (i ≤ 32) × (v ≡ bitsBelow (nth (openIn count done) w) i)
+Inv-loop count w done v₀ i₀ v i = Begun (openIn count done) w i v
 
 abbrev μ-loop : tie.MeasureT-loop
 μ-loop count w done v₀ i₀ v i = 32 - i
 
 -- src/lib.rt:237:5
 loop-holds : tie.Need-loop-holds Inv-loop μ-loop
-loop-holds c = (omega arith, sym (bits-none _))
+loop-holds c = begun-none _ _
 
 -- src/lib.rt:238:36
 mul-is-open : tie.Need-mul-is-open Inv-loop μ-loop
@@ -40,8 +38,7 @@ bit-if-requires c κs = search needs
 
 -- src/lib.rt:238:9
 add-v : tie.Need-add-v Inv-loop μ-loop
-unfolding nth
-add-v c = let l = c .before .before .before .loop in omega (arith, mask-room _ (l .i) (l .v) (c .bit-if .result) (l .inv .1) (c .bit-if .ensures ∙ ap (λ t. cond t (2 ^ l .i) 0) (c .before .is-open .ensures)) (omega arith))
+add-v c = omega (arith, begun-room _ _ (c .before .before .before .loop .inv) (omega arith) (c .before .is-open .ensures) (c .bit-if .ensures))
 
 -- src/lib.rt:239:9
 add-i : tie.Need-add-i Inv-loop μ-loop
@@ -53,16 +50,11 @@ loop-less c = search needs
 
 -- src/lib.rt:237:5
 loop-again : tie.Need-loop-again Inv-loop μ-loop
-unfolding nth
-loop-again c = let l = c .before .before .before .loop in (omega arith, mask-more _ (l .i) (l .v) _ (l .inv .1) (c .bit-if .ensures ∙ ap (λ t. cond t (2 ^ l .i) 0) (c .before .is-open .ensures)))
+loop-again c = begun-more _ _ (c .before .before .before .loop .inv) (omega arith) (c .before .is-open .ensures) (c .bit-if .ensures)
 
 -- src/lib.rt:231:1
 returns : tie.Need-returns Inv-loop μ-loop
-unfolding wordOf
-returns c =
-    let l = c .before .loop in
-    let e : l .i ≡ 32 = omega arith in
-    rw e at (l .inv .1)
+returns c = begun-end _ _ (c .before .loop .inv) (omega arith)
 
 pub open-word-spec : {M : Type 1} → statement M
 open-word-spec =
