@@ -4,11 +4,11 @@ use Rattle.distances.proofs.first_value.Tie as tie
 use Rattle.distances.proofs.first_value.Reads as reads
 use Rattle.distances.proofs.first_value.Lts as lts
 
--- src/lib.rt:181:1
+-- src/lib.rt:29:1
 returns : tie.Need-returns
 returns c = search needs
 
--- src/lib.rt:181:1
+-- src/lib.rt:29:1
 returns-2 : tie.Need-returns-2
 returns-2 c = search needs
 

@@ -4,15 +4,15 @@ use Rattle.distances.proofs.weigh.Tie as tie
 use Rattle.distances.proofs.weigh.Reads as reads
 use Rattle.distances.proofs.weigh.Lts as lts
 
--- src/lib.rt:230:5
+-- src/lib.rt:78:5
 mul-result : tie.Need-mul-result
 mul-result c = search needs
 
--- src/lib.rt:230:5
+-- src/lib.rt:78:5
 add-result : tie.Need-add-result
 add-result c = search needs
 
--- src/lib.rt:227:1
+-- src/lib.rt:75:1
 returns : tie.Need-returns
 returns c = search needs
 
