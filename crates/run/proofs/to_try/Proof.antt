@@ -2,7 +2,7 @@ use Rattle.run.specs.Hops.{mayTake}
 use borrow.Author.Tests.{lt-ltb, le-ltb, not-true, not-false}
 use mathlib.Core.Path.{_≡_, refl}
 use mathlib.Core.Bool.{true, false}
-use Rattle.distances.specs.Arcs.{fitsIn}
+use Rattle.arcs.specs.Arcs.{fitsIn}
 use borrow.Author.Needs.{needs}
 use Rattle.run.proofs.to_try.Statement.{statement}
 use Rattle.run.proofs.to_try.Tie as tie
