@@ -1,6 +1,6 @@
 -- A walk along a path ends in a plan or at a flaw, and the cut of each flaw is legal: it parts the flawed state from a state of the same block
 -- that is wanted.
-use mathlib.Core.Path.{_≡_, sym, ap, _∙_, subst}
+use mathlib.Core.Path.{_≡_, refl, sym, ap, _∙_, subst}
 use mathlib.Core.Logic.{⊎-elim}
 use mathlib.Core.Bool.{Bool, true, false, not}
 use mathlib.Core.List.{List, [], _∷_, map}
@@ -134,6 +134,12 @@ module _ (t : Task) (bs : Blocks) (good : Parts t bs) where
   longer h hs x k m arrived r = and-both (and-both (lt-ltb (h .step .0) (stepCount t) k) m) r
   longer h hs x k m (flawed b y w) r = r
 
+  -- a step that lands outside the trace's next block is a flaw at the state before the step
+  walk-off : (h : Hop) (hs : List Hop) (x : State) (a : Block) → canTake t (h .step) x ≡ true → inBlock t (taken t (h .step) x) (blockAt bs (h .to)) ≡ false
+      → walk t bs x a (h ∷ hs) ≡ flawed a x (backWanted t (h .step) (blockAt bs (h .to)))
+  unfolding walk
+  walk-off h hs x a m l = rw (m, walk) (rw (l, walk) refl)
+
   -- a walk along a path ends in a plan or at a flaw
   pub walk-right : Accepted t → (hs : List Hop) (x : State) (a : Block) → a .0 < length bs → isState t x ≡ true → inBlock t x (blockAt bs a) ≡ true → isPath t bs a hs ≡ true
       → WalkRight x hs (walk t bs x a hs)
@@ -150,7 +156,7 @@ module _ (t : Task) (bs : Blocks) (good : Parts t bs) where
       (λ (l : inBlock t y c ≡ true).
       rw (m, walk) (rw (l, walk)
       (longer h hs x (f .known) m (walk t bs y (h .to) hs) (walk-right v hs (taken t (h .step) x) (h .to) (f .made) (taken-state t v (h .step) x hx) l (f .rest)))))
-      (λ (l : inBlock t y c ≡ false). rw (m, walk) (rw (l, walk) (back-flaw a x (h .step) c ha i (f .leads) m l)))
+      (λ (l : inBlock t y c ≡ false). rw (walk-off h hs x a m l) (back-flaw a x (h .step) c ha i (f .leads) m l))
       (true-or-false (inBlock t y c)))
       (λ (m : canTake t (h .step) x ≡ false). rw (m, walk) (need-flaw a x (h .step) c ha i (f .leads) m))
       (true-or-false (canTake t (h .step) x))
