@@ -13,7 +13,7 @@ use lib.Pow.{pow-pos, pow-mono}
 use lib.Bits.{bitAnd, and-block, and-mask, and-zero-r}
 use lib.ListN.{length, getD, set}
 use lib.Seq.{getD-set-same, getD-set-other}
-use borrow.Author.Tests.{eq-eqb, ne-eqb, eqb-false, lt-ltb, le-ltb}
+use borrow.Author.Tests.{eq-eqb, ne-eqb}
 use borrow.Author.Count.{below-none, below-more}
 use Rattle.task.specs.Loops.{all}
 use Rattle.task.proofs.LoopLaws.{below-suc, true-or-false}

@@ -1,9 +1,9 @@
 // Which blocks a step leads from, in words of 32 blocks.
 ghost use mathlib.Core.Path.{_≡_};
 ghost use mathlib.Core.Bool.{cond};
-ghost use Prim.Native.Nat.{ℕ, _+_, _*_, _/_, _^_, _<_, _≤_};
+ghost use Prim.Native.Nat.{_*_, _^_, _<_, _≤_};
 ghost use lib.Bits.{bitAnd};
-ghost use lib.ListN.{length, getD};
+ghost use lib.ListN.{length};
 ghost use Rattle.task.specs.Sizes.{limits};
 ghost use Rattle.blocks.specs.Flat.{past, rowOf};
 ghost use Rattle.arcs.specs.Arcs.{fitsIn};

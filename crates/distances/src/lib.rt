@@ -1,7 +1,7 @@
 // The distances of blocks: for each block the least cost and, among those, the least number of steps to a goal block.
 ghost use mathlib.Core.Path.{_≡_};
 ghost use mathlib.Core.Bool.{cond};
-ghost use Prim.Native.Nat.{ℕ, _+_, _*_, _/_, _<_, _≤_};
+ghost use Prim.Native.Nat.{ℕ, _+_, _*_, _<_, _≤_};
 ghost use lib.ListN.{length, getD};
 ghost use Rattle.task.specs.Sizes.{limits};
 ghost use Rattle.task.specs.Task.{Task};
