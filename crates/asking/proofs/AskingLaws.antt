@@ -6,13 +6,13 @@ use mathlib.Core.Bool.{Bool, true, false}
 use mathlib.Core.List.{List, [], _∷_}
 use lib.Dec.{ltb}
 use lib.ListN.{length, getD}
-use borrow.Author.Tests.{lt-ltb, le-ltb, eq-eqb, ne-eqb}
+use borrow.Author.Tests.{lt-ltb, le-ltb, eq-eqb}
 use Rattle.task.specs.Loops.{over}
 use Rattle.task.specs.Tables.{taskOf}
 use Rattle.task.specs.Task.{Task, Accepted, column, columnCount, sizeOf}
 use Rattle.task.proofs.TableLaws.{columns-of, size-of}
 use Rattle.fields.specs.Judging.{check, pick, refusal}
-use Rattle.fields.proofs.JudgingLaws.{stop, go, applies, passes, no-checks, refusal-append}
+use Rattle.fields.proofs.JudgingLaws.{stop, go, applies, passes, no-checks, refusal-append, refused-is}
 use Rattle.sheets.specs.LentTables.{tooFew}
 use Rattle.sheets.specs.Holding.{taskOn}
 use Rattle.unpack.specs.declared.Read.{Read}
@@ -38,7 +38,7 @@ fine false e z = refl
 module _ (m s states est : List ℕ) where
   refusing : {r : ℕ} → r ≡ refusal (questionChecks m s states est) → (r ≡ 0 → ⊥) → outcome (Refused r) est ≡ asking m s states est
   unfolding asking
-  refusing e z = simp (ne-eqb (refusal (questionChecks m s states est)) 0 (λ q. z (e ∙ q))) (ap (λ (k : ℕ). outcome (Refused k) est) e)
+  refusing e z = refused-is (λ n. outcome (Refused n) est) (questionChecks m s states est) _ e z
 
   module _ {r : ℕ} {exit : List ℕ} (j : SheetJudged m s r exit) where
     -- a refusal of the sheets

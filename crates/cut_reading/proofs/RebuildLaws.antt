@@ -14,7 +14,7 @@ use Rattle.task.specs.Tables.{taskOf}
 use Rattle.task.proofs.LoopLaws.{and-both, all-more, all-fails}
 use Rattle.fields.specs.Judging.{refusal, each}
 use Rattle.fields.specs.Places.{puts}
-use Rattle.fields.proofs.JudgingLaws.{stop, go, applies, passes, no-checks, refusal-append}
+use Rattle.fields.proofs.JudgingLaws.{stop, go, applies, passes, no-checks, refusal-append, refused-is}
 use Rattle.fields.proofs.PlaceLaws.{each-length, puts-over}
 use Rattle.sheets.specs.LentTables.{tooFew}
 use Rattle.blocks.specs.Blocks.{whole, cutAll, blocksOf}
@@ -106,7 +106,7 @@ module _ (m s : List ℕ) where
 module _ (m s cuts : List ℕ) where
   pub refusing : {r : ℕ} → r ≡ refusal (rebuildChecks m s cuts) → (r ≡ 0 → ⊥) → outcome (Refused r) cuts ≡ rebuilding m s cuts
   unfolding rebuilding
-  refusing e z = simp (ne-eqb (refusal (rebuildChecks m s cuts)) 0 (λ q. z (e ∙ q))) (ap (λ (k : ℕ). outcome (Refused k) cuts) e)
+  refusing e z = refused-is (λ n. outcome (Refused n) cuts) (rebuildChecks m s cuts) _ e z
 
   module _ {r : ℕ} {exit : List ℕ} (j : SheetJudged m s r exit) where
     -- a refusal of the sheets

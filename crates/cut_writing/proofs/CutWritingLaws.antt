@@ -6,14 +6,14 @@ use mathlib.Core.List.{List, [], _∷_, _++_, append-assoc, append-nil}
 use lib.ListN.{length, getD, take, drop, length-append, length-drop, drop-of-length-le}
 use lib.Dec.{ltb}
 use lib.Seq.{ext-getD, getD-drop, take-all, drop-at, take-at, drop-drop}
-use borrow.Author.Tests.{ltb-true, lt-ltb, le-ltb, eq-eqb, ne-eqb}
+use borrow.Author.Tests.{ltb-true, lt-ltb, le-ltb, eq-eqb}
 use borrow.Rule.Slice.PartMut.{putMid}
 use Rattle.task.specs.Loops.{tab, over}
 use Rattle.task.specs.Task.{Task, Accepted}
 use Rattle.task.proofs.LoopLaws.{tab-at, tab-length}
 use Rattle.fields.specs.Bits.{putField}
 use Rattle.fields.specs.Judging.{Entry, given, entry, outside, refusal, judged, each}
-use Rattle.fields.proofs.JudgingLaws.{go, stop, neither, stopped, went, good, spoilt, above-high, inside, refusal-append, applies, passes, no-checks}
+use Rattle.fields.proofs.JudgingLaws.{go, stop, neither, stopped, went, good, spoilt, above-high, inside, refusal-append, applies, passes, no-checks, refused-is}
 use Rattle.fields.specs.Packing.{packed, sheetOf}
 use Rattle.fields.proofs.PutLaws.{Bytes}
 use Rattle.fields.proofs.PackingLaws.{packed-append, packed-over}
@@ -156,7 +156,7 @@ module _ (model : List ℕ) (count : ℕ) (cuts sheet : List ℕ) where
 
   refusing : {r : ℕ} → r ≡ refusal (writeCutsChecks model count cuts sheet) → (r ≡ 0 → ⊥) → outcome (Refused r) sheet ≡ writingCuts model count cuts sheet
   unfolding writingCuts
-  refusing e z = simp (ne-eqb (refusal (writeCutsChecks model count cuts sheet)) 0 (λ q. z (e ∙ q))) (ap (λ (k : ℕ). outcome (Refused k) sheet) e)
+  refusing e z = refused-is (λ n. outcome (Refused n) sheet) (writeCutsChecks model count cuts sheet) _ e z
 
   pub given-refused : {r : ℕ} → r ≡ refusal (givenChecks model count cuts) → (r ≡ 0 → ⊥) → outcome (Refused r) sheet ≡ writingCuts model count cuts sheet
   unfolding writeCutsChecks

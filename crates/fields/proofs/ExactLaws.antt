@@ -3,11 +3,14 @@ use Prim.Native.Nat.{ℕ, zero, suc, _<_, zero-le, suc-le-suc}
 use native.Mathlib.Nat.{le-of-suc-le-suc, not-suc-le-zero}
 use native.Mathlib.Omega.{arith}
 use mathlib.Core.Path.{_≡_, refl, sym, _∙_}
+use mathlib.Core.Logic.{_↔_}
 use mathlib.Core.Bool.{Bool, true, false}
 use mathlib.Core.List.{List, [], _∷_, _++_}
+use lib.Dec.{eqb}
 use lib.ListN.{length, getD}
-use Rattle.fields.specs.Judging.{Entry, Check, check, checksOf, refusal, each}
-use Rattle.fields.proofs.JudgingLaws.{stop, go, no-checks}
+use borrow.Author.Tests.{eqb-true}
+use Rattle.fields.specs.Judging.{Entry, Check, check, checksOf, pick, refusal, each}
+use Rattle.fields.proofs.JudgingLaws.{stop, go, no-checks, refused-is}
 
 abbrev pub noCheck : Check
 noCheck = check 0 false
@@ -82,3 +85,27 @@ found (c ∷ cs) (suc k) n z l e h b = first-passes c cs (b 0 (omega arith)) ∙
 
 pub first-refuses : (cs : List Check) (n : ℕ) → (n ≡ 0 → ⊥) → FirstToApply cs n → refusal cs ≡ n
 first-refuses cs n z r = found cs (r .place) n z (r .below) (r .number) (r .applies) (r .before)
+
+-- ---- what an operation comes to where it is done if no check applies, and else refused with the number of the first that does
+pub record Refuses {O : Type 0} (number : O → ℕ) (refused : ℕ → O) (cs : List Check) (o : O) : Type 0 where
+  pub told : number o ≡ refusal cs
+  -- the number n is returned exactly when its row applies and no earlier check does
+  pub exactly : (n : ℕ) → (n ≡ 0 → ⊥) → (number o ≡ n) ↔ FirstToApply cs n
+  -- and everything lent is as found
+  pub leaves : (n : ℕ) → (n ≡ 0 → ⊥) → number o ≡ n → o ≡ refused n
+
+pub refuses : {O : Type 0} (number : O → ℕ) (refused : ℕ → O) (cs : List Check) (done : O) → Numbered cs → number done ≡ 0 → ((n : ℕ) → number (refused n) ≡ n)
+    → Refuses number refused cs (pick (eqb (refusal cs) 0) done (refused (refusal cs)))
+refuses number refused cs done numbered none same =
+    record {
+      told = said (eqb R 0) refl;
+      exactly = λ n some. (λ e. applies-first cs numbered n some (sym (said (eqb R 0) refl) ∙ e), λ r. said (eqb R 0) refl ∙ first-refuses cs n some r);
+      leaves = λ n some e. sym (refused-is refused cs done (sym e ∙ said (eqb R 0) refl) some);
+    }
+  where
+    R : ℕ
+    R = refusal cs
+
+    said : (b : Bool) → eqb R 0 ≡ b → number (pick b done (refused R)) ≡ R
+    said true h = none ∙ sym (eqb-true R 0 h)
+    said false h = same R

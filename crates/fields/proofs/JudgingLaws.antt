@@ -6,8 +6,8 @@ use native.Mathlib.Decide.{decLt}
 use mathlib.Core.Path.{_≡_, refl, sym, ap, ap₂, _∙_}
 use mathlib.Core.Bool.{Bool, true, false, not, _||_}
 use mathlib.Core.List.{List, [], _∷_, _++_}
-use borrow.Author.Tests.{ltb-false, le-leb, lt-leb, lt-ltb, le-ltb}
-use lib.Dec.{ltb}
+use borrow.Author.Tests.{ltb-false, le-leb, lt-leb, lt-ltb, le-ltb, ne-eqb}
+use lib.Dec.{eqb, ltb}
 use lib.ListN.{length}
 use Rattle.fields.specs.Judging.{Field, Entry, Check, onSheet, inTable, entry, check, outside, pick, _then_, checksOf, refusal, judged, each}
 
@@ -194,12 +194,12 @@ unfolding outside
 inside-means low high v h = let r = or-false (ltb v low) (ltb high v) h in (ltb-false v low (r .0), ltb-false high v (r .1))
   where
     or-false : (a b : Bool) → (a || b) ≡ false → (a ≡ false) × (b ≡ false)
-    or-false true b e = absurd (omega (arith, ap number e))
-      where
-        number : Bool → ℕ
-        number true = 1
-        number false = 0
+    or-false true b e = let z : _≡_ {A = ℕ} 0 1 = cc in absurd (omega arith)
     or-false false b e = (refl, e)
+
+-- an operation that is refused comes to its refusal
+pub refused-is : {O : Type 0} (refused : ℕ → O) (cs : List Check) (done : O) {r : ℕ} → r ≡ refusal cs → (r ≡ 0 → ⊥) → refused r ≡ pick (eqb (refusal cs) 0) done (refused (refusal cs))
+refused-is refused cs done e z = rw (ne-eqb (refusal cs) 0 (λ q. z (e ∙ q))) (ap refused e)
 
 -- lists that agree at each turn are the same
 pub each-ext : {A : Type 0} (n : ℕ) (f g : ℕ → List A) → ((i : ℕ) → i < n → f i ≡ g i) → each n f ≡ each n g

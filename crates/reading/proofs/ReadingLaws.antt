@@ -5,11 +5,11 @@ use mathlib.Core.Path.{_≡_, sym, ap, ap₂, _∙_, subst}
 use mathlib.Core.List.{List, [], _∷_}
 use lib.ListN.{length}
 use lib.Dec.{ltb}
-use borrow.Author.Tests.{eq-eqb, ne-eqb, ltb-false}
+use borrow.Author.Tests.{eq-eqb, ltb-false}
 use Rattle.task.specs.Loops.{over}
 use Rattle.fields.specs.Judging.{Check, check, refusal, each}
 use Rattle.fields.specs.Places.{puts}
-use Rattle.fields.proofs.JudgingLaws.{refusal-append, stop, go, passed}
+use Rattle.fields.proofs.JudgingLaws.{refusal-append, stop, go, passed, refused-is}
 use Rattle.fields.proofs.PlaceLaws.{puts-over}
 use Rattle.sheets.specs.ModelSheet.{columnsOf, stepsOf, columnOn, costOn, marksOn, sheetWith, ofSheet, sheetChecks, judgeSheet}
 use Rattle.sheets.specs.LentTables.{columnValues, costValue, stepValues, frameOf, costsOf, marksOf, readChecks}
@@ -24,7 +24,7 @@ module _ (s frame costs marks : List ℕ) where
 
   refused : {r : ℕ} → r ≡ refusal (readChecks s frame costs marks) → (r ≡ 0 → ⊥) → outcome (Refused r) frame costs marks ≡ reading s frame costs marks
   unfolding reading
-  refused {r} e h = simp (ne-eqb (refusal (readChecks s frame costs marks)) 0 (λ z. h (e ∙ z))) (ap (λ (k : ℕ). outcome (Refused k) frame costs marks) e)
+  refused e z = refused-is (λ n. outcome (Refused n) frame costs marks) (readChecks s frame costs marks) _ e z
 
   pub sheet-refused : {r : ℕ} → r ≡ judgeSheet s → (r ≡ 0 → ⊥) → outcome (Refused r) frame costs marks ≡ reading s frame costs marks
   unfolding judgeSheet readChecks

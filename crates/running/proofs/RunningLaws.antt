@@ -5,7 +5,7 @@ use mathlib.Core.Path.{_≡_, sym, ap, ap₂, _∙_}
 use mathlib.Core.List.{List, []}
 use lib.Dec.{ltb}
 use lib.ListN.{length, getD}
-use borrow.Author.Tests.{lt-ltb, le-ltb, ltb-false, eq-eqb, ne-eqb}
+use borrow.Author.Tests.{lt-ltb, le-ltb, ltb-false, eq-eqb}
 use Rattle.task.specs.declared.Model.{Model}
 use Rattle.task.specs.declared.Step.{Step}
 use Rattle.task.specs.Loops.{over}
@@ -15,7 +15,7 @@ use Rattle.task.specs.Task.{Task, step, costs}
 use Rattle.task.proofs.LoopLaws.{tab-length}
 use Rattle.task.proofs.TableLaws.{cost-of, steps-of}
 use Rattle.fields.specs.Judging.{outside, refusal}
-use Rattle.fields.proofs.JudgingLaws.{stop, go, applies, passes, passed, no-checks, refusal-append, below-low, above-high, inside, inside-means}
+use Rattle.fields.proofs.JudgingLaws.{stop, go, applies, passes, passed, no-checks, refusal-append, below-low, above-high, inside, inside-means, refused-is}
 use Rattle.sheets.specs.ModelSheet.{sheetChecks, judgeSheet}
 use Rattle.unpack.specs.declared.Read.{Read}
 use Rattle.unpack.specs.Unpacking.{unpacked}
@@ -115,7 +115,7 @@ plan-told t n blocks path list₀ r = (rw (tab-length n (stepIn path)) (ap (λ (
 module _ (s : List ℕ) (room : ℕ) (cuts rows : List ℕ) where
   refusing : {r : ℕ} → r ≡ refusal (runChecks s room cuts rows) → (r ≡ 0 → ⊥) → outcome (Refused r) cuts rows ≡ running s room cuts rows
   unfolding running
-  refusing e z = simp (ne-eqb (refusal (runChecks s room cuts rows)) 0 (λ q. z (e ∙ q))) (ap (λ (k : ℕ). outcome (Refused k) cuts rows) e)
+  refusing e z = refused-is (λ n. outcome (Refused n) cuts rows) (runChecks s room cuts rows) _ e z
 
   module _ {read : Read} (e : read ≡ unpacked s) where
     code : read .code ≡ refusal (sheetChecks s)

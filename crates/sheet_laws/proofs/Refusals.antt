@@ -4,24 +4,20 @@
 -- then its own number where its value is bad; then, for a reader, 6 where bytes follow; and last 8 for each table.
 use Prim.Native.Nat.{ℕ}
 use native.Mathlib.Omega.{arith}
-use mathlib.Core.Path.{_≡_, refl, sym, ap, _∙_}
-use mathlib.Core.Bool.{Bool, true, false}
+use mathlib.Core.Path.{_≡_, refl}
 use mathlib.Core.List.{List, _++_}
-use lib.Dec.{eqb}
-use borrow.Author.Tests.{ne-eqb, eqb-true}
-use Rattle.task.specs.Loops.{over}
-use Rattle.fields.specs.Judging.{pick, checksOf, refusal}
-use Rattle.fields.specs.Packing.{sheetOf}
-use Rattle.fields.proofs.ExactLaws.{FirstToApply, Numbered, NumberedFields, numbered-append, fields-append, fields-each, numbered-checks, applies-first, first-refuses}
-use Rattle.sheets.specs.ModelSheet.{Source, columnsIn, stepsIn, headerPart, columnPart, marksPart, stepPart, fillPart, fieldsPart, entries, modelBytes, columnsOf, stepsOf, ofSheet, sheetChecks, judgeSheet}
-use Rattle.sheets.specs.LentTables.{frameOf, costsOf, marksOf, readChecks, writeChecks}
+use Rattle.fields.specs.Judging.{checksOf, refusal}
+use Rattle.fields.proofs.ExactLaws.{FirstToApply, Numbered, NumberedFields, numbered-append, fields-append, fields-each, numbered-checks, Refuses, refuses}
+use Rattle.sheets.specs.ModelSheet.{Source, columnsIn, stepsIn, headerPart, columnPart, marksPart, stepPart, fillPart, fieldsPart, entries, ofSheet, sheetChecks, judgeSheet}
+use Rattle.sheets.specs.LentTables.{readChecks, writeChecks}
 use Rattle.sheets.proofs.SheetLaws.{H, C, S, F}
 use Rattle.sheets.specs.Holding.{modelOf, noModel}
+use Rattle.unpack.specs.declared.Read.{Read}
 use Rattle.unpack.specs.Unpacking.{answer, unpacked}
-use Rattle.reading.specs.declared.ModelRead.the-variants.{Held, Refused}
-use Rattle.reading.specs.Reading.{outcome, number, reading}
-use Rattle.writing.specs.declared.write.SheetWritten.the-variants.{Sheet, Refused as NotWritten}
-use Rattle.writing.specs.Writing.{outcome as written, number as writeNumber, writing}
+use Rattle.reading.specs.declared.ModelRead.the-variants.{Refused}
+use Rattle.reading.specs.Reading.{Outcome, outcome, number, reading}
+use Rattle.writing.specs.declared.write.SheetWritten.the-variants.{Refused as NotWritten}
+use Rattle.writing.specs.Writing.{Outcome as Written, outcome as written, number as writeNumber, writing}
 
 -- every field has its number
 pub numbered-fields : (p : Source) → NumberedFields (entries p)
@@ -41,13 +37,13 @@ module _ (s : List ℕ) where
   unfolding sheetChecks
   numbered-sheet = numbered-append (checksOf (entries (ofSheet s))) _ (numbered-checks (entries (ofSheet s)) (numbered-fields (ofSheet s))) ((λ z. omega arith), tt)
 
+  by-value : Refuses (λ (r : Read). r .code) (λ n. answer n noModel) (sheetChecks s) (unpacked s)
+  unfolding unpacked judgeSheet
+  by-value = refuses _ _ (sheetChecks s) (answer 0 (modelOf (ofSheet s))) numbered-sheet refl (λ n. refl)
+
   pub code-judged : unpacked s .code ≡ judgeSheet s
-  unfolding unpacked
-  code-judged = split (eqb (judgeSheet s) 0) refl
-    where
-      split : (b : Bool) → eqb (judgeSheet s) 0 ≡ b → pick b (answer 0 (modelOf (ofSheet s))) (answer (judgeSheet s) noModel) .code ≡ judgeSheet s
-      split true h = sym (eqb-true (judgeSheet s) 0 h)
-      split false h = refl
+  unfolding judgeSheet
+  code-judged = by-value .told
 
 -- ---- the reader
 module _ (s frame costs marks : List ℕ) where
@@ -57,31 +53,22 @@ module _ (s frame costs marks : List ℕ) where
       numbered-append (sheetChecks s) _ (numbered-sheet s)
       ((λ z. omega arith), ((λ z. omega arith), ((λ z. omega arith), tt)))
 
-  abbrev R : ℕ
-  R = refusal (readChecks s frame costs marks)
-
-  pub read-number : number (reading s frame costs marks .answer) ≡ R
+  reader : Refuses (λ (o : Outcome). number (o .answer)) (λ n. outcome (Refused n) frame costs marks) (readChecks s frame costs marks) (reading s frame costs marks)
   unfolding reading number
-  read-number = split (eqb R 0) refl
-    where
-      split : (b : Bool) → eqb R 0 ≡ b → number (pick b (outcome (Held (columnsOf s) (stepsOf s)) (over (frameOf (ofSheet s)) frame) (over (costsOf (ofSheet s)) costs) (over (marksOf (ofSheet s)) marks)) (outcome (Refused R) frame costs marks) .answer) ≡ R
-      split true h = sym (eqb-true R 0 h)
-      split false h = refl
+  reader = refuses _ _ (readChecks s frame costs marks) _ numbered-read refl (λ n. refl)
+
+  pub read-number : number (reading s frame costs marks .answer) ≡ refusal (readChecks s frame costs marks)
+  read-number = reader .told
 
   module _ (n : ℕ) (some : n ≡ 0 → ⊥) where
-    -- the number n is returned: its row applies and no earlier check does
     pub read-only : number (reading s frame costs marks .answer) ≡ n → FirstToApply (readChecks s frame costs marks) n
-    read-only e = applies-first (readChecks s frame costs marks) numbered-read n some (sym read-number ∙ e)
+    read-only = reader .exactly n some .0
 
     pub read-whenever : FirstToApply (readChecks s frame costs marks) n → number (reading s frame costs marks .answer) ≡ n
-    read-whenever r = read-number ∙ first-refuses (readChecks s frame costs marks) n some r
+    read-whenever = reader .exactly n some .1
 
-    -- and everything lent is as found
     pub read-leaves : number (reading s frame costs marks .answer) ≡ n → reading s frame costs marks ≡ outcome (Refused n) frame costs marks
-    unfolding reading
-    read-leaves e =
-        let q : R ≡ n = sym read-number ∙ e in
-        simp (ne-eqb R 0 (λ z. some (sym q ∙ z))) (ap (λ (k : ℕ). outcome (Refused k) frame costs marks) q)
+    read-leaves = reader .leaves n some
 
 -- ---- the writer
 module _ (p : Source) (sheet : List ℕ) where
@@ -89,26 +76,19 @@ module _ (p : Source) (sheet : List ℕ) where
   unfolding writeChecks
   numbered-write = numbered-append (checksOf (entries p)) _ (numbered-checks (entries p) (numbered-fields p)) ((λ z. omega arith), tt)
 
-  abbrev W : ℕ
-  W = refusal (writeChecks p sheet)
-
-  pub write-number : writeNumber (writing p sheet .answer) ≡ W
+  writer : Refuses (λ (o : Written). writeNumber (o .answer)) (λ n. written (NotWritten n) sheet) (writeChecks p sheet) (writing p sheet)
   unfolding writing writeNumber
-  write-number = split (eqb W 0) refl
-    where
-      split : (b : Bool) → eqb W 0 ≡ b → writeNumber (pick b (written (Sheet (modelBytes (columnsIn p) (stepsIn p))) (over (sheetOf (entries p)) sheet)) (written (NotWritten W) sheet) .answer) ≡ W
-      split true h = sym (eqb-true W 0 h)
-      split false h = refl
+  writer = refuses _ _ (writeChecks p sheet) _ numbered-write refl (λ n. refl)
+
+  pub write-number : writeNumber (writing p sheet .answer) ≡ refusal (writeChecks p sheet)
+  write-number = writer .told
 
   module _ (n : ℕ) (some : n ≡ 0 → ⊥) where
     pub write-only : writeNumber (writing p sheet .answer) ≡ n → FirstToApply (writeChecks p sheet) n
-    write-only e = applies-first (writeChecks p sheet) numbered-write n some (sym write-number ∙ e)
+    write-only = writer .exactly n some .0
 
     pub write-whenever : FirstToApply (writeChecks p sheet) n → writeNumber (writing p sheet .answer) ≡ n
-    write-whenever r = write-number ∙ first-refuses (writeChecks p sheet) n some r
+    write-whenever = writer .exactly n some .1
 
     pub write-leaves : writeNumber (writing p sheet .answer) ≡ n → writing p sheet ≡ written (NotWritten n) sheet
-    unfolding writing
-    write-leaves e =
-        let q : W ≡ n = sym write-number ∙ e in
-        simp (ne-eqb W 0 (λ z. some (sym q ∙ z))) (ap (λ (k : ℕ). written (NotWritten k) sheet) q)
+    write-leaves = writer .leaves n some

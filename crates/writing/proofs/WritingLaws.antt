@@ -5,12 +5,12 @@ use native.Mathlib.Omega.{arith}
 use mathlib.Core.Path.{_≡_, refl, sym, ap, ap₂, _∙_}
 use mathlib.Core.List.{List, [], _∷_, _++_}
 use lib.ListN.{length}
-use borrow.Author.Tests.{eq-eqb, ne-eqb, lt-ltb, le-ltb}
+use borrow.Author.Tests.{eq-eqb, lt-ltb, le-ltb}
 use Rattle.task.specs.Loops.{over}
 use Rattle.fields.specs.Bits.{putField}
 use Rattle.fields.specs.Judging.{given, inTable, outside, _then_, refusal, judged, each}
 use Rattle.fields.specs.Packing.{packed}
-use Rattle.fields.proofs.JudgingLaws.{good, inside, went, judged-append, last-stopped, last-went, applies, passes, no-checks}
+use Rattle.fields.proofs.JudgingLaws.{good, inside, went, judged-append, last-stopped, last-went, applies, passes, no-checks, refused-is}
 use Rattle.fields.proofs.PutLaws.{Bytes}
 use Rattle.fields.proofs.PackingLaws.{packed-append, packed-over}
 use Rattle.sheets.specs.ModelSheet.{Source, columnsIn, stepsIn, headerPart, columnPart, stepPart, fillPart, fieldsPart, entries, modelBits, modelBytes, fillBits}
@@ -83,7 +83,7 @@ module _ (p : Source) (l : List ℕ) where
 
   refused : {r : ℕ} → r ≡ refusal (writeChecks p l) → (r ≡ 0 → ⊥) → outcome (Refused r) l ≡ writing p l
   unfolding writing
-  refused {r} e h = simp (ne-eqb (refusal (writeChecks p l)) 0 (λ z. h (e ∙ z))) (ap (λ (k : ℕ). outcome (Refused k) l) e)
+  refused e z = refused-is (λ n. outcome (Refused n) l) (writeChecks p l) _ e z
 
   pub fields-refused : {r : ℕ} → r ≡ judged (entries p) → (r ≡ 0 → ⊥) → outcome (Refused r) l ≡ writing p l
   unfolding writeChecks
