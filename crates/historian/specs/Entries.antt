@@ -4,9 +4,8 @@ use mathlib.Core.List.{List, [], _∷_, _++_}
 use lib.Dec.{eqb, ltb}
 use lib.ListN.{length, getD}
 use Rattle.task.specs.Loops.{over}
-use Rattle.task.specs.Sizes.{limits}
 use Rattle.task.specs.Task.{Task}
-use Rattle.fields.specs.Judging.{Check, check, outside, pick, refusal, each}
+use Rattle.fields.specs.Judging.{Check, check, pick, refusal, each}
 use Rattle.sheets.specs.ModelSheet.{sheetChecks}
 use Rattle.sheets.specs.Holding.{taskOn}
 use Rattle.run.specs.Run as run
@@ -14,7 +13,7 @@ use Rattle.run.specs.Run.{blocksIn, rowsOf}
 use Rattle.refining.specs.Listing.{listed, cutPlace, rowPlace}
 use Rattle.running.specs.declared.Answer.{Answer}
 use Rattle.running.specs.declared.Answer.the-variants.{Plan, NoPlan, Open, Refused}
-use Rattle.running.specs.Running.{told}
+use Rattle.running.specs.Running.{roomCheck, told}
 use Rattle.cut_sheets.specs.CutSheet.{cutSheetChecks, cutsOf}
 use Rattle.asking.specs.Question.{statesIn, badStates, estimatesOf}
 
@@ -46,7 +45,7 @@ answerNumber (Open estimate blocks) = 3 * 2 ^ 56 + blocks * 2 ^ 44 + estimate
 -- the sheet, then 7, then 8: cuts and rows each need room less 1 places, of three values each
 unfoldable pub entryChecks : List ℕ → ℕ → List ℕ → List ℕ → List Check
 entryChecks s room cuts rows =
-    sheetChecks s ++ (check 7 (outside 1 (limits .blocks) room) ∷ fewPlaces (room - 1) 12 cuts ∷ fewPlaces (room - 1) 12 rows ∷ [])
+    sheetChecks s ++ (roomCheck room ∷ fewPlaces (room - 1) 12 cuts ∷ fewPlaces (room - 1) 12 rows ∷ [])
 
 pub record RunOutcome : Type 0 where
   pub answer : ℕ

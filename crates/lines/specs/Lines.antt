@@ -7,10 +7,9 @@ use lib.Dec.{eqb, ltb}
 use lib.ListN.{length, getD, drop}
 use Rattle.io.specs.Digits.{digits}
 use Rattle.task.specs.Loops.{first, when}
-use Rattle.task.specs.Sizes.{limits}
 use Rattle.task.specs.Task.{Task}
 use Rattle.fields.specs.Bits.{fieldAt}
-use Rattle.fields.specs.Judging.{check, outside, pick, refusal, each}
+use Rattle.fields.specs.Judging.{pick, refusal, each}
 use Rattle.fields.specs.Places.{puts}
 use Rattle.sheets.specs.ModelSheet.{sheetChecks}
 use Rattle.sheets.specs.Holding.{taskOn}
@@ -19,7 +18,7 @@ use Rattle.run.specs.Run.{blocksIn, rowsOf}
 use Rattle.refining.specs.Listing.{listed, rowPlace}
 use Rattle.running.specs.declared.Answer.{Answer}
 use Rattle.running.specs.declared.Answer.the-variants.{Plan, NoPlan, Open, Refused}
-use Rattle.running.specs.Running.{told}
+use Rattle.running.specs.Running.{roomCheck, told}
 
 -- how many decimal digits a number has; 20 are enough for 64 bits
 unfoldable pub width : ℕ → ℕ
@@ -81,7 +80,7 @@ madeLines t o = firstLine (told t (blocksIn o) (o .answer)) ++ rowLines (listed 
 -- the sheet is judged, then 7
 unfoldable pub ranLines : List ℕ → ℕ → List ℕ
 ranLines s room =
-    let n = refusal (sheetChecks s ++ (check 7 (outside 1 (limits .blocks) room) ∷ [])) in
+    let n = refusal (sheetChecks s ++ (roomCheck room ∷ [])) in
     pick (eqb n 0) (madeLines (taskOn s) (run.run (taskOn s) room)) (firstLine (Refused n))
 
 -- room in 16 bits, then a model sheet; fewer than two bytes is refusal 1

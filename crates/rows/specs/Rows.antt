@@ -7,7 +7,7 @@ use lib.ListN.{length, getD}
 use Rattle.task.specs.Loops.{all, tab, over}
 use Rattle.task.specs.Sizes.{limits}
 use Rattle.task.specs.Task.{step}
-use Rattle.fields.specs.Judging.{Check, check, outside, pick, refusal}
+use Rattle.fields.specs.Judging.{Check, pick, refusal}
 use Rattle.sheets.specs.ModelSheet.{sheetChecks}
 use Rattle.sheets.specs.Holding.{taskOn}
 use Rattle.sheets.specs.LentTables.{tooFew}
@@ -17,7 +17,7 @@ use Rattle.run.specs.Run.{blocksIn, rowsOf}
 use Rattle.refining.specs.Listing.{listed, cutPlace}
 use Rattle.running.specs.declared.Answer.{Answer}
 use Rattle.running.specs.declared.Answer.the-variants.{Plan, NoPlan, Open, Refused}
-use Rattle.running.specs.Running.{told}
+use Rattle.running.specs.Running.{roomCheck, told}
 
 -- ---- rows put from a list of values, three for each: step, tenths, tenths left
 
@@ -48,7 +48,7 @@ filling rows vs n = let m = fitting (length rows) vs n in filled m (over (tab m 
 -- the sheet, then 7, then 8: cuts and rows each need room less 1 places
 unfoldable pub rowChecks : List ℕ → ℕ → List ℕ → List Row → List Check
 rowChecks s room cuts rows =
-    sheetChecks s ++ (check 7 (outside 1 (limits .blocks) room) ∷ tooFew ((room - 1) * 3) cuts ∷ check 8 (ltb (length rows) (room - 1)) ∷ [])
+    sheetChecks s ++ (roomCheck room ∷ tooFew ((room - 1) * 3) cuts ∷ tooFew (room - 1) rows ∷ [])
 
 pub record Outcome : Type 0 where
   pub answer : Answer

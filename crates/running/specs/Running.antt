@@ -20,9 +20,13 @@ use Rattle.walk.specs.Walking.{stepIn}
 use Rattle.running.specs.declared.Answer.{Answer}
 use Rattle.running.specs.declared.Answer.the-variants.{Plan, NoPlan, Open, Refused}
 
+-- room not 1 to 256
+abbrev pub roomCheck : ℕ → Check
+roomCheck room = check 7 (outside 1 (limits .blocks) room)
+
 -- 7, and then 8: cuts and rows each need room less 1 places
 unfoldable pub roomChecks : ℕ → List ℕ → List ℕ → List Check
-roomChecks room cuts rows = check 7 (outside 1 (limits .blocks) room) ∷ tooFew ((room - 1) * 3) cuts ∷ tooFew ((room - 1) * 3) rows ∷ []
+roomChecks room cuts rows = roomCheck room ∷ tooFew ((room - 1) * 3) cuts ∷ tooFew ((room - 1) * 3) rows ∷ []
 
 -- a run judges the sheet, then 7, then 8
 unfoldable pub runChecks : List ℕ → ℕ → List ℕ → List ℕ → List Check

@@ -51,7 +51,7 @@ ofTables n m frame costs marks =
     }
 
 -- ---- a lent table has too few places
-abbrev pub tooFew : ℕ → List ℕ → Check
+abbrev pub tooFew : {A : Type 0} → ℕ → List A → Check
 tooFew places table = check 8 (ltb (length table) places)
 
 -- a reader judges the sheet, and last the tables
