@@ -31,6 +31,9 @@ module _ (n places : ℕ) where
 pub at-most : (n places : ℕ) {m : ℕ} → m ≡ usable n places → m ≤ n
 at-most n places e = omega (arith, usable-is n places .few)
 
+pub all-there : (n places : ℕ) {m : ℕ} → m ≡ usable n places → m ≤ places
+all-there n places e = omega (arith, usable-is n places .there)
+
 -- two tests that say the same
 pub same-test : (a b c d : ℕ) → (a < b → c < d) → (b ≤ a → d ≤ c) → ltb a b ≡ ltb c d
 same-test a b c d f g = split (decLt a b)

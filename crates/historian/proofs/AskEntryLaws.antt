@@ -23,8 +23,10 @@ use Rattle.asking.specs.declared.Asked.the-variants.{Estimates, Refused}
 use Rattle.asking.specs.Question.{statesIn, badStates, estimateAt, estimatesOf, questionChecks, outcome, asking}
 use Rattle.asking.specs.Question as question
 use Rattle.asking.proofs.AnswerLaws.{few-states}
-use Rattle.historian.specs.Entries.{bytesAt, fewPlaces, usable, askChecks, askOutcome, askEntry}
-use Rattle.historian.proofs.ValueLaws.{list-over, usable-is, same-test}
+use Rattle.counts.specs.Counts.{usable}
+use Rattle.counts.proofs.UsableLaws.{usable-is, same-test}
+use Rattle.historian.specs.Entries.{bytesAt, fewPlaces, askChecks, askOutcome, askEntry}
+use Rattle.historian.proofs.ValueLaws.{list-over}
 use Rattle.sheets.specs.Holding.{taskOn}
 
 module _ (model s states l : List ℕ) where
@@ -103,7 +105,7 @@ module _ (model s states l : List ℕ) where
             (z, q)
 
   -- ---- 8 is judged on the places lent: a list that has as many of them as a question can have states
-  module _ (bytes : List ℕ) (most : ℕ) (all : ltb most 64 ≡ false) (lent : length l ≡ usable most 4 (length bytes)) where
+  module _ (bytes : List ℕ) (most : ℕ) (all : ltb most 64 ≡ false) (lent : length l ≡ usable most (length bytes / 4)) where
     tail-same : refusal (check 11 (badStates t states) ∷ fewPlaces n 4 bytes ∷ []) ≡ refusal (check 11 (badStates t states) ∷ tooFew n l ∷ [])
     unfolding fewPlaces
     tail-same = ⊎-elim bad good (true-or-false (badStates t states))
@@ -113,7 +115,7 @@ module _ (model s states l : List ℕ) where
 
         good : badStates t states ≡ false → refusal (check 11 (badStates t states) ∷ check 8 (ltb (length bytes / 4) n) ∷ []) ≡ refusal (check 11 (badStates t states) ∷ tooFew n l ∷ [])
         good h =
-            let u = usable-is most 4 (length bytes) in
+            let u = usable-is most (length bytes / 4) in
             let k = few-states t states h in
             ap (λ (x : Bool). refusal (check 11 (badStates t states) ∷ check 8 x ∷ []))
             (same-test (length bytes / 4) n (length l) n (λ p. omega (arith, u .there)) (λ p. let q = u .enough n (omega (arith, k, ltb-false most 64 all)) p in omega arith))
@@ -127,7 +129,7 @@ module _ (model s states l : List ℕ) where
     unfolding askEntry
     told e k q ys w =
         let r = answered e k q in
-        let b : k * 4 ≤ length bytes = omega (arith, r .there, usable-is most 4 (length bytes) .there) in
+        let b : k * 4 ≤ length bytes = omega (arith, r .there, usable-is most (length bytes / 4) .there) in
         let x = w ∙ list-over estimates l ys bytes k (r .list) (r .long) b in
         simp (eq-eqb (refusal (askChecks model s states bytes)) 0 (checks-same ∙ r .ok)) (ap (askOutcome 0) x)
 
@@ -145,7 +147,7 @@ module _ (model s states bytes list : List ℕ) (n : ℕ) {a : Asked} {l′ : Li
       (omega (arith, w .few), omega (arith, w .within, length-append l′ (drop n list)), omega (arith, w .there, length-take-le n list h))
 
   -- the places lent are as many as can matter
-  module _ (most : ℕ) (p : n ≡ usable most 4 (length bytes)) (all : ltb most 64 ≡ false) where
+  module _ (most : ℕ) (p : n ≡ usable most (length bytes / 4)) (all : ltb most 64 ≡ false) where
     pub asked-in : (k : ℕ) → a ≡ Estimates k → {bytes′ : List ℕ} → bytes′ ≡ puts 0 (each k (bytesAt (l′ ++ drop n list))) bytes → askOutcome 0 bytes′ ≡ askEntry model s states bytes
     asked-in k q = told model s states (take n list) bytes most all (length-take-le n list h ∙ p) e k q (drop n list)
 

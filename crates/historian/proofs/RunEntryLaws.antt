@@ -18,16 +18,17 @@ use Rattle.fields.proofs.JudgingLaws.{applies, refusal-append, inside-means}
 use Rattle.sheets.specs.ModelSheet.{sheetChecks}
 use Rattle.running.specs.declared.Answer.{Answer}
 use Rattle.running.specs.Running.{roomChecks, runChecks, outcome, running}
-use Rattle.counts.specs.Counts.{cutValues, rowValues, Counted}
+use Rattle.counts.specs.Counts.{cutValues, rowValues, Counted, usable}
 use Rattle.counts.proofs.CountLaws as count
-use Rattle.historian.specs.Entries.{bytesAt, bytesOf, fewPlaces, answerNumber, usable, entryChecks, madeBytes, runOutcome, runEntry}
-use Rattle.historian.proofs.ValueLaws.{list-over, nothing-put, usable-is, same-test}
+use Rattle.counts.proofs.UsableLaws.{usable-is, same-test}
+use Rattle.historian.specs.Entries.{bytesAt, bytesOf, fewPlaces, answerNumber, entryChecks, madeBytes, runOutcome, runEntry}
+use Rattle.historian.proofs.ValueLaws.{list-over, nothing-put}
 
 -- ---- 8 is judged on the places lent
-module _ (s : List ℕ) (room : ℕ) (cuts rows c r : List ℕ) (lc : length c ≡ usable 255 12 (length cuts) * 3) (lr : length r ≡ usable 255 12 (length rows) * 3) where
-  few-same : room ≤ 256 → (bytes list : List ℕ) → length list ≡ usable 255 12 (length bytes) * 3 → ltb (length bytes / 12) (room - 1) ≡ ltb (length list) ((room - 1) * 3)
+module _ (s : List ℕ) (room : ℕ) (cuts rows c r : List ℕ) (lc : length c ≡ usable 255 (length cuts / 12) * 3) (lr : length r ≡ usable 255 (length rows / 12) * 3) where
+  few-same : room ≤ 256 → (bytes list : List ℕ) → length list ≡ usable 255 (length bytes / 12) * 3 → ltb (length bytes / 12) (room - 1) ≡ ltb (length list) ((room - 1) * 3)
   few-same h bytes list e =
-      let u = usable-is 255 12 (length bytes) in
+      let u = usable-is 255 (length bytes / 12) in
       same-test (length bytes / 12) (room - 1) (length list) ((room - 1) * 3) (λ p. omega (arith, u .there)) (λ p. let q = u .enough (room - 1) (omega arith) p in omega arith)
 
   abbrev RoomSame : Type 0
@@ -65,8 +66,8 @@ module _ (s : List ℕ) (room : ℕ) (cuts rows c r : List ℕ) (lc : length c �
     room-for =
         let k = count.known s room c r e in
         record {
-          cut-bytes = omega (arith, k .cuts-fit, lc, usable-is 255 12 (length cuts) .there);
-          row-bytes = omega (arith, k .rows-fit, lr, usable-is 255 12 (length rows) .there);
+          cut-bytes = omega (arith, k .cuts-fit, lc, usable-is 255 (length cuts / 12) .there);
+          row-bytes = omega (arith, k .rows-fit, lr, usable-is 255 (length rows / 12) .there);
         }
 
     -- the entry's outcome
@@ -109,9 +110,9 @@ module _ (s : List ℕ) (room : ℕ) (cutList rowList : List ℕ) (m n : ℕ) {a
       let l = length-take-le (n * 3) rowList (omega arith) in
       (omega (arith, known .rows-fit, l), omega (arith, known .rows-in, length-append r′ (drop (n * 3) rowList)), omega (arith, known .rows-fit, l))
 
-  module _ (cuts rows : List ℕ) (h : (length cutList ≡ 765) × (length rowList ≡ 765)) (p : m ≡ usable 255 12 (length cuts)) (q : n ≡ usable 255 12 (length rows)) where
-    part : (list bytes : List ℕ) {k : ℕ} → length list ≡ 765 → k ≡ usable 255 12 (length bytes) → length (take (k * 3) list) ≡ usable 255 12 (length bytes) * 3
-    part list bytes {k} l e = length-take-le (k * 3) list (omega (arith, usable-is 255 12 (length bytes) .few)) ∙ ap (λ (x : ℕ). x * 3) e
+  module _ (cuts rows : List ℕ) (h : (length cutList ≡ 765) × (length rowList ≡ 765)) (p : m ≡ usable 255 (length cuts / 12)) (q : n ≡ usable 255 (length rows / 12)) where
+    part : (list bytes : List ℕ) {k : ℕ} → length list ≡ 765 → k ≡ usable 255 (length bytes / 12) → length (take (k * 3) list) ≡ usable 255 (length bytes / 12) * 3
+    part list bytes {k} l e = length-take-le (k * 3) list (omega (arith, usable-is 255 (length bytes / 12) .few)) ∙ ap (λ (x : ℕ). x * 3) e
 
     pub told-in : {k l x : ℕ} {cuts′ rows′ : List ℕ} → k ≡ cutValues a → l ≡ rowValues a → x ≡ answerNumber a
         → cuts′ ≡ puts 0 (each k (bytesAt (c′ ++ drop (m * 3) cutList))) cuts → rows′ ≡ puts 0 (each l (bytesAt (r′ ++ drop (n * 3) rowList))) rows → runOutcome x cuts′ rows′ ≡ runEntry s room cuts rows

@@ -85,9 +85,3 @@ unfoldable pub askEntry : List ℕ → List ℕ → List ℕ → List ℕ → As
 askEntry model s states estimates =
     let n = refusal (askChecks model s states estimates) in
     pick (eqb n 0) (askOutcome 0 (over (bytesOf (estimatesOf (taskOn model) (cutsOf s) states)) estimates)) (askOutcome n estimates)
-
--- ---- what code counts
-
--- how many of the whole places of w bytes can matter where no more than n can be used
-unfoldable pub usable : ℕ → ℕ → ℕ → ℕ
-usable n w bytes = pick (ltb n (bytes / w)) n (bytes / w)

@@ -5,9 +5,10 @@ ghost use lib.ListN.{length};
 ghost use Rattle.fields.specs.Judging.{each};
 ghost use Rattle.fields.specs.Places.{puts};
 ghost use Rattle.counts.specs.Counts.{Counted};
-ghost use Rattle.historian.specs.Entries.{valueBytes, bytesAt, usable, answerNumber, runOutcome, runEntry, askOutcome, askEntry};
+ghost use Rattle.historian.specs.Entries.{valueBytes, bytesAt, answerNumber, runOutcome, runEntry, askOutcome, askEntry};
 use counts::cut_values;
 use counts::row_values;
+use counts::usable_places;
 use planner::Answer;
 use planner::Asked;
 use planner::question;
@@ -20,18 +21,6 @@ const KIND: u64 = 72057594037927936;
 const BLOCK: u64 = 17592186044416;
 
 const STEP: u64 = 4294967296;
-
-// How many of the whole places of w bytes can matter where no more than most can be used.
-fn usable_places(most: usize, w: usize, bytes: usize) -> usize
-    requires { ⌜ 1 ≤ w ⌝ }
-    ensures { λ r. ⌜ r ≡ usable most w bytes ⌝ }
-{
-    let places = bytes / w;
-    if most < places {
-        return most;
-    }
-    places
-}
 
 // Puts value i of a list: four bytes, most significant first.
 fn put_value(v: u32, i: usize, bytes: &mut [u8])
@@ -86,8 +75,8 @@ fn run_in(
     requires { ⌜ (length (now «cut_list») ≡ 765) × (length (now «row_list») ≡ 765) ⌝ }
     ensures { λ r. ⌜ runOutcome r (now (cuts .exit)) (now (rows .exit)) ≡ runEntry (now (sheet .entry)) room (now (cuts .entry)) (now (rows .entry)) ⌝ }
 {
-    let m = usable_places(Model::BLOCKS - 1, 12, cuts.len()) * 3;
-    let n = usable_places(Model::BLOCKS - 1, 12, rows.len()) * 3;
+    let m = usable_places(Model::BLOCKS - 1, cuts.len() / 12) * 3;
+    let n = usable_places(Model::BLOCKS - 1, rows.len() / 12) * 3;
     let answer = run(sheet, room, &mut cut_list[..m], &mut row_list[..n]);
     put_values(cut_list, cut_values(answer), cuts);
     put_values(row_list, row_values(answer), rows);
@@ -99,7 +88,7 @@ fn ask_in(model: &[u8], sheet: &[u8], states: &[u8], list: &mut [u32], estimates
     requires { ⌜ length (now list) ≡ 64 ⌝ }
     ensures { λ r. ⌜ askOutcome r (now (estimates .exit)) ≡ askEntry (now (model .entry)) (now (sheet .entry)) (now (states .entry)) (now (estimates .entry)) ⌝ }
 {
-    let n = usable_places(64, 4, estimates.len());
+    let n = usable_places(64, estimates.len() / 4);
     match question(model, sheet, states, &mut list[..n]) {
         Asked::Estimates(asked) => {
             put_values(list, asked, estimates);

@@ -1,7 +1,7 @@
 use native.Mathlib.Omega.{arith}
 use mathlib.Core.Path.{refl, sym}
 use lib.Seq.{length-take-le}
-use Rattle.historian.proofs.ValueLaws.{few-places, whole-places}
+use Rattle.counts.proofs.UsableLaws.{at-most, all-there}
 use Rattle.historian.proofs.AskEntryLaws.{asked-go, asked-in, refused-in}
 use borrow.Author.Needs.{needs}
 use Rattle.historian.proofs.ask_in.Statement.{statement}
@@ -10,16 +10,16 @@ use Rattle.historian.proofs.ask_in.Reads as reads
 use Rattle.historian.proofs.ask_in.Lts as lts
 use Rattle.asking.proofs.question.Reads as question-reads
 use Rattle.historian.proofs.put_values.Reads as put-values-reads
-use Rattle.historian.proofs.usable_places.Reads as usable-places-reads
+use Rattle.counts.proofs.usable_places.Reads as usable-places-reads
 
 usable-places-requires : tie.Need-usable-places-requires
 usable-places-requires c κs = search needs
 
 slice-relend-prefix-question : tie.Need-slice-relend-prefix-question
-slice-relend-prefix-question c = omega (arith, c .before .before .before .before .before .before .pre, few-places _ _ _ (c .usable-places .ensures))
+slice-relend-prefix-question c = omega (arith, c .before .before .before .before .before .before .pre, at-most _ _ (c .usable-places .ensures))
 
 slice-aggregate-question : tie.Need-slice-aggregate-question
-slice-aggregate-question c = sym (length-take-le (c .before .usable-places .result) (c .before .before .before .before .before .before .before .args .list .now) (omega (arith, c .before .before .before .before .before .before .before .pre, few-places _ _ _ (c .before .usable-places .ensures))))
+slice-aggregate-question c = sym (length-take-le (c .before .usable-places .result) (c .before .before .before .before .before .before .before .args .list .now) (omega (arith, c .before .before .before .before .before .before .before .pre, at-most _ _ (c .before .usable-places .ensures))))
 
 question-requires : tie.Need-question-requires
 question-requires c κs = search needs
@@ -28,7 +28,7 @@ enum-known-asked : tie.Need-enum-known-asked
 enum-known-asked c = search needs
 
 put-values-requires : tie.Need-put-values-requires
-put-values-requires c κs = let g = c .before .before .before .before .before .before .before .before .before .before .before .before .before .before .before .args in asked-go (g .model .now) (g .sheet .now) (g .states .now) (g .estimates .now) (g .list .now) (c .before .before .before .before .before .before .before .before .before .usable-places .result) (c .before .before .before .before .before .before .before .question .ensures) (omega (arith, c .before .before .before .before .before .before .before .before .before .before .before .before .before .before .before .pre, few-places _ _ _ (c .before .before .before .before .before .before .before .before .before .usable-places .ensures))) (c .before .before .before .asked .given .0 .0) (c .before .before .before .asked .given .1) (omega (arith, whole-places _ _ _ (c .before .before .before .before .before .before .before .before .before .usable-places .ensures)))
+put-values-requires c κs = let g = c .before .before .before .before .before .before .before .before .before .before .before .before .before .before .before .args in asked-go (g .model .now) (g .sheet .now) (g .states .now) (g .estimates .now) (g .list .now) (c .before .before .before .before .before .before .before .before .before .usable-places .result) (c .before .before .before .before .before .before .before .question .ensures) (omega (arith, c .before .before .before .before .before .before .before .before .before .before .before .before .before .before .before .pre, at-most _ _ (c .before .before .before .before .before .before .before .before .before .usable-places .ensures))) (c .before .before .before .asked .given .0 .0) (c .before .before .before .asked .given .1) (omega (arith, all-there _ _ (c .before .before .before .before .before .before .before .before .before .usable-places .ensures)))
 
 enum-known-number : tie.Need-enum-known-number
 enum-known-number c = search needs
@@ -43,13 +43,13 @@ same-length-2 : tie.Need-same-length-2
 same-length-2 c = search needs
 
 returns : tie.Need-returns
-returns c = let g = c .before .before .before .before .before .before .before .before .before .before .before .before .before .before .before .before .before .before .args in asked-in (g .model .now) (g .sheet .now) (g .states .now) (g .estimates .now) (g .list .now) (c .before .before .before .before .before .before .before .before .before .before .before .before .usable-places .result) (c .before .before .before .before .before .before .before .before .before .before .question .ensures) (omega (arith, c .before .before .before .before .before .before .before .before .before .before .before .before .before .before .before .before .before .before .pre, few-places _ _ _ (c .before .before .before .before .before .before .before .before .before .before .before .before .usable-places .ensures))) _ (c .before .before .before .before .before .before .before .before .before .before .before .before .usable-places .ensures) refl (c .before .before .before .before .before .before .asked .given .0 .0) (c .before .before .before .before .before .before .asked .given .1) (c .before .before .put-values .ensures)
+returns c = let g = c .before .before .before .before .before .before .before .before .before .before .before .before .before .before .before .before .before .before .args in asked-in (g .model .now) (g .sheet .now) (g .states .now) (g .estimates .now) (g .list .now) (c .before .before .before .before .before .before .before .before .before .before .before .before .usable-places .result) (c .before .before .before .before .before .before .before .before .before .before .question .ensures) (omega (arith, c .before .before .before .before .before .before .before .before .before .before .before .before .before .before .before .before .before .before .pre, at-most _ _ (c .before .before .before .before .before .before .before .before .before .before .before .before .usable-places .ensures))) _ (c .before .before .before .before .before .before .before .before .before .before .before .before .usable-places .ensures) refl (c .before .before .before .before .before .before .asked .given .0 .0) (c .before .before .before .before .before .before .asked .given .1) (c .before .before .put-values .ensures)
 
 same-length-3 : tie.Need-same-length-3
 same-length-3 c = search needs
 
 returns-2 : tie.Need-returns-2
-returns-2 c = let g = c .before .before .before .before .before .before .before .before .before .before .before .before .before .args in refused-in (g .model .now) (g .sheet .now) (g .states .now) (g .estimates .now) (g .list .now) (c .before .before .before .before .before .before .before .usable-places .result) (c .before .before .before .before .before .question .ensures) (omega (arith, c .before .before .before .before .before .before .before .before .before .before .before .before .before .pre, few-places _ _ _ (c .before .before .before .before .before .before .before .usable-places .ensures))) _ (c .before .before .before .before .before .before .before .usable-places .ensures) refl (c .before .number .given .0 .0) (c .before .number .given .1)
+returns-2 c = let g = c .before .before .before .before .before .before .before .before .before .before .before .before .before .args in refused-in (g .model .now) (g .sheet .now) (g .states .now) (g .estimates .now) (g .list .now) (c .before .before .before .before .before .before .before .usable-places .result) (c .before .before .before .before .before .question .ensures) (omega (arith, c .before .before .before .before .before .before .before .before .before .before .before .before .before .pre, at-most _ _ (c .before .before .before .before .before .before .before .usable-places .ensures))) _ (c .before .before .before .before .before .before .before .usable-places .ensures) refl (c .before .number .given .0 .0) (c .before .number .given .1)
 
 pub ask-in-spec : {M : Type 1} → statement M
 ask-in-spec =

@@ -2,7 +2,7 @@ use Prim.Native.Nat.{_*_}
 use native.Mathlib.Omega.{arith}
 use mathlib.Core.Path.{sym}
 use lib.Seq.{length-take-le}
-use Rattle.historian.proofs.ValueLaws.{few-places, whole-places}
+use Rattle.counts.proofs.UsableLaws.{at-most, all-there}
 use Rattle.historian.proofs.RunEntryLaws.{counted, cuts-go, rows-go, told-in}
 use borrow.Author.Needs.{needs}
 use Rattle.historian.proofs.run_in.Statement.{statement}
@@ -13,7 +13,7 @@ use Rattle.counts.proofs.cut_values.Reads as cut-values-reads
 use Rattle.counts.proofs.row_values.Reads as row-values-reads
 use Rattle.historian.proofs.answer_number.Reads as answer-number-reads
 use Rattle.historian.proofs.put_values.Reads as put-values-reads
-use Rattle.historian.proofs.usable_places.Reads as usable-places-reads
+use Rattle.counts.proofs.usable_places.Reads as usable-places-reads
 use Rattle.running.proofs.run.Reads as run-reads
 
 sub-usable-places : tie.Need-sub-usable-places
@@ -23,7 +23,7 @@ usable-places-requires : tie.Need-usable-places-requires
 usable-places-requires c κs = search needs
 
 mul-m : tie.Need-mul-m
-mul-m c = let h = few-places _ _ _ (c .usable-places .ensures) in search (needs, h)
+mul-m c = let h = at-most _ _ (c .usable-places .ensures) in search (needs, h)
 
 sub-usable-places-2 : tie.Need-sub-usable-places-2
 sub-usable-places-2 c = search needs
@@ -32,19 +32,19 @@ usable-places-requires-2 : tie.Need-usable-places-requires-2
 usable-places-requires-2 c κs = search needs
 
 mul-n : tie.Need-mul-n
-mul-n c = let h = few-places _ _ _ (c .usable-places2 .ensures) in search (needs, h)
+mul-n c = let h = at-most _ _ (c .usable-places2 .ensures) in search (needs, h)
 
 slice-relend-prefix-run : tie.Need-slice-relend-prefix-run
-slice-relend-prefix-run c = omega (arith, c .before .before .before .before .before .before .before .pre .0, few-places _ _ _ (c .before .usable-places .ensures))
+slice-relend-prefix-run c = omega (arith, c .before .before .before .before .before .before .before .pre .0, at-most _ _ (c .before .usable-places .ensures))
 
 slice-aggregate-run : tie.Need-slice-aggregate-run
-slice-aggregate-run c = sym (length-take-le (c .before .before .usable-places .result * 3) (c .before .before .before .before .before .before .before .before .args .cut-list .now) (omega (arith, c .before .before .before .before .before .before .before .before .pre .0, few-places _ _ _ (c .before .before .usable-places .ensures))))
+slice-aggregate-run c = sym (length-take-le (c .before .before .usable-places .result * 3) (c .before .before .before .before .before .before .before .before .args .cut-list .now) (omega (arith, c .before .before .before .before .before .before .before .before .pre .0, at-most _ _ (c .before .before .usable-places .ensures))))
 
 slice-relend-prefix-run-2 : tie.Need-slice-relend-prefix-run-2
-slice-relend-prefix-run-2 c = omega (arith, c .before .before .before .before .before .before .before .before .pre .1, few-places _ _ _ (c .before .usable-places2 .ensures))
+slice-relend-prefix-run-2 c = omega (arith, c .before .before .before .before .before .before .before .before .pre .1, at-most _ _ (c .before .usable-places2 .ensures))
 
 slice-aggregate-run-2 : tie.Need-slice-aggregate-run-2
-slice-aggregate-run-2 c = sym (length-take-le (c .before .before .usable-places2 .result * 3) (c .before .before .before .before .before .before .before .before .before .args .row-list .now) (omega (arith, c .before .before .before .before .before .before .before .before .before .pre .1, few-places _ _ _ (c .before .before .usable-places2 .ensures))))
+slice-aggregate-run-2 c = sym (length-take-le (c .before .before .usable-places2 .result * 3) (c .before .before .before .before .before .before .before .before .before .args .row-list .now) (omega (arith, c .before .before .before .before .before .before .before .before .before .pre .1, at-most _ _ (c .before .before .usable-places2 .ensures))))
 
 run-requires : tie.Need-run-requires
 run-requires c κs = search needs
@@ -53,13 +53,13 @@ cut-values-requires : tie.Need-cut-values-requires
 cut-values-requires c κs = let g = c .before .before .before .before .before .before .before .before .before .before .before .before .before .before .before .args in counted (g .sheet .now) (g .room) (g .cut-list .now) (g .row-list .now) (c .before .before .before .before .before .before .before .before .before .usable-places .result) (c .before .before .before .before .before .before .before .before .usable-places2 .result) (c .before .before .before .before .before .run .ensures)
 
 put-values-requires : tie.Need-put-values-requires
-put-values-requires c κs = let g = c .before .before .before .before .before .before .before .before .before .before .before .before .before .before .before .before .before .args in cuts-go (g .sheet .now) (g .room) (g .cut-list .now) (g .row-list .now) (c .before .before .before .before .before .before .before .before .before .before .before .usable-places .result) (c .before .before .before .before .before .before .before .before .before .before .usable-places2 .result) (c .before .before .before .before .before .before .before .run .ensures) (g .cuts .now) (c .before .before .before .before .before .before .before .before .before .before .before .before .before .before .before .before .before .pre .0) (few-places _ _ _ (c .before .before .before .before .before .before .before .before .before .before .before .usable-places .ensures)) (omega (arith, whole-places _ _ _ (c .before .before .before .before .before .before .before .before .before .before .before .usable-places .ensures))) (c .before .cut-values .ensures)
+put-values-requires c κs = let g = c .before .before .before .before .before .before .before .before .before .before .before .before .before .before .before .before .before .args in cuts-go (g .sheet .now) (g .room) (g .cut-list .now) (g .row-list .now) (c .before .before .before .before .before .before .before .before .before .before .before .usable-places .result) (c .before .before .before .before .before .before .before .before .before .before .usable-places2 .result) (c .before .before .before .before .before .before .before .run .ensures) (g .cuts .now) (c .before .before .before .before .before .before .before .before .before .before .before .before .before .before .before .before .before .pre .0) (at-most _ _ (c .before .before .before .before .before .before .before .before .before .before .before .usable-places .ensures)) (omega (arith, all-there _ _ (c .before .before .before .before .before .before .before .before .before .before .before .usable-places .ensures))) (c .before .cut-values .ensures)
 
 row-values-requires : tie.Need-row-values-requires
 row-values-requires c κs = let g = c .before .before .before .before .before .before .before .before .before .before .before .before .before .before .before .before .before .before .before .before .before .args in counted (g .sheet .now) (g .room) (g .cut-list .now) (g .row-list .now) (c .before .before .before .before .before .before .before .before .before .before .before .before .before .before .before .usable-places .result) (c .before .before .before .before .before .before .before .before .before .before .before .before .before .before .usable-places2 .result) (c .before .before .before .before .before .before .before .before .before .before .before .run .ensures)
 
 put-values-requires-2 : tie.Need-put-values-requires-2
-put-values-requires-2 c κs = let g = c .before .before .before .before .before .before .before .before .before .before .before .before .before .before .before .before .before .before .before .before .before .before .before .args in rows-go (g .sheet .now) (g .room) (g .cut-list .now) (g .row-list .now) (c .before .before .before .before .before .before .before .before .before .before .before .before .before .before .before .before .before .usable-places .result) (c .before .before .before .before .before .before .before .before .before .before .before .before .before .before .before .before .usable-places2 .result) (c .before .before .before .before .before .before .before .before .before .before .before .before .before .run .ensures) (g .rows .now) (c .before .before .before .before .before .before .before .before .before .before .before .before .before .before .before .before .before .before .before .before .before .before .before .pre .1) (few-places _ _ _ (c .before .before .before .before .before .before .before .before .before .before .before .before .before .before .before .before .usable-places2 .ensures)) (omega (arith, whole-places _ _ _ (c .before .before .before .before .before .before .before .before .before .before .before .before .before .before .before .before .usable-places2 .ensures))) (c .before .row-values .ensures)
+put-values-requires-2 c κs = let g = c .before .before .before .before .before .before .before .before .before .before .before .before .before .before .before .before .before .before .before .before .before .before .before .args in rows-go (g .sheet .now) (g .room) (g .cut-list .now) (g .row-list .now) (c .before .before .before .before .before .before .before .before .before .before .before .before .before .before .before .before .before .usable-places .result) (c .before .before .before .before .before .before .before .before .before .before .before .before .before .before .before .before .usable-places2 .result) (c .before .before .before .before .before .before .before .before .before .before .before .before .before .run .ensures) (g .rows .now) (c .before .before .before .before .before .before .before .before .before .before .before .before .before .before .before .before .before .before .before .before .before .before .before .pre .1) (at-most _ _ (c .before .before .before .before .before .before .before .before .before .before .before .before .before .before .before .before .usable-places2 .ensures)) (omega (arith, all-there _ _ (c .before .before .before .before .before .before .before .before .before .before .before .before .before .before .before .before .usable-places2 .ensures))) (c .before .row-values .ensures)
 
 answer-number-requires : tie.Need-answer-number-requires
 answer-number-requires c κs = let g = c .before .before .before .before .before .before .before .before .before .before .before .before .before .before .before .before .before .before .before .before .before .before .before .before .before .before .args in counted (g .sheet .now) (g .room) (g .cut-list .now) (g .row-list .now) (c .before .before .before .before .before .before .before .before .before .before .before .before .before .before .before .before .before .before .before .before .usable-places .result) (c .before .before .before .before .before .before .before .before .before .before .before .before .before .before .before .before .before .before .before .usable-places2 .result) (c .before .before .before .before .before .before .before .before .before .before .before .before .before .before .before .before .run .ensures)
