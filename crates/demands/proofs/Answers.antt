@@ -30,7 +30,7 @@ use Rattle.asking.specs.Question.{stateIn, statesIn, badStates, estimateAt, est
 use Rattle.question_laws.proofs.Estimates as estimates
 use Rattle.historian.specs.Entries.{bytesOf, fewPlaces, runOutcome, runEntry, askChecks, AskOutcome, askOutcome, askEntry}
 use Rattle.demands.proofs.Numbers.{kind, valueOn, value-back}
-use Rattle.demands.proofs.Refusals.{ask-made, ask-number}
+use Rattle.demands.proofs.Refusals.{elhavir-question-judged}
 use Rattle.demands.proofs.Entry as entry
 
 -- ---- "A plan can be carried out from the start, reaches the goal, and no plan is cheaper", and its rows are in the list
@@ -86,7 +86,7 @@ module _ (model s states est : List ℕ) {r : ℕ} {l : List ℕ} (done : askOut
   u = taskOn model
 
   quiet : refusal (askChecks model s states est) ≡ 0
-  quiet = sym (ap (λ (o : AskOutcome). o .answer) done ∙ ask-number model s states est) ∙ answered
+  quiet = sym (elhavir-question-judged model s states est done .told) ∙ answered
 
   parts : (refusal (cutSheetChecks model s) ≡ 0) × (refusal (check 11 (badStates u states) ∷ fewPlaces (statesIn u states) 4 est ∷ []) ≡ 0)
   unfolding askChecks
@@ -100,7 +100,7 @@ module _ (model s states est : List ℕ) {r : ℕ} {l : List ℕ} (done : askOut
 
   -- the bytes of one value for each state, over the front of the list
   pub entry-estimates-written : l ≡ over (bytesOf (estimatesOf u (cutsOf s) states)) est
-  entry-estimates-written = ap (λ (o : AskOutcome). o .estimates) (done ∙ ask-made model s states est quiet)
+  entry-estimates-written = ap (λ (o : AskOutcome). o .estimates) (elhavir-question-judged model s states est done .done answered)
 
   pub entry-one-each : length (estimatesOf u (cutsOf s) states) ≡ statesIn u states
   unfolding estimatesOf

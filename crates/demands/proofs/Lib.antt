@@ -2,7 +2,6 @@ pub mod OneOutcome
 pub mod Refusals
 pub mod RefusalNumbers
 pub mod Numbers
-pub mod Acceptances
 pub mod Entry
 pub mod Answers
 pub mod RoundTrips

@@ -1,27 +1,30 @@
 -- Demand 1: "Every file, number and lent table is accepted or refused by the numbers in 01, whoever calls and without prior checks. A refusal
 -- returns its number and leaves every lent table as found."
--- For each public function two theorems, for whoever knows only its contract: a number is returned exactly when its row applies and no earlier
--- check does, and then the answer is that refusal and everything lent is as found. No theorem asks anything of what is passed.
--- `Acceptances` has when a call is accepted.
+-- For each public function, for whoever knows only its contract: `..-judged`, that a call is done exactly when no check applies, that a number is returned
+-- exactly when its row applies and no earlier check does, and that then the answer is that refusal and everything lent is as found (`Judged` in
+-- fields/proofs/ExactLaws); and `..-numbers`, which of 01's numbers the function can return. No theorem asks anything of what is passed.
 -- "Nothing reads or writes outside what was lent, and every call ends" is no theorem here: it is part of what it is to meet a contract, which is a triple
 -- of total correctness over what the types lend and what the `requires` asks, beside any frame (the kit's law `adequate`). No public function has a
 -- `requires`, so it holds of every call.
-use Prim.Native.Nat.{ℕ, _^_, _≤_, _<_}
+use Prim.Native.Nat.{ℕ, _+_, _^_, _≤_}
 use native.Mathlib.Omega.{arith}
-use native.Mathlib.Decide.{ℕ-discrete}
-use mathlib.Core.Path.{_≡_, refl, sym, ap, _∙_}
-use mathlib.Core.Logic.{_↔_}
+use mathlib.Core.Path.{_≡_, refl, sym, ap, _∙_, subst}
+use mathlib.Core.Bool.{Bool, true}
 use mathlib.Core.List.{List}
-use borrow.Author.Tests.{eq-eqb, ne-eqb}
+use lib.Dec.{ltb}
+use lib.ListN.{length}
+use borrow.Author.Tests.{eq-eqb, ne-eqb, lt-ltb, le-ltb}
 use Rattle.task.specs.Loops.{over}
 use Rattle.task.specs.Task.{Task}
-use Rattle.fields.specs.Judging.{refusal}
-use Rattle.fields.proofs.ExactLaws.{FirstToApply, Numbered, numbered-append, applies-first, first-refuses}
-use Rattle.sheets.specs.ModelSheet.{sheetChecks}
+use Rattle.fields.specs.Judging.{pick, refusal}
+use Rattle.fields.specs.Packing.{sheetOf}
+use Rattle.fields.proofs.ExactLaws.{Numbered, numbered-append, Judged, judges}
+use Rattle.sheets.specs.ModelSheet.{Source, columnsIn, stepsIn, columnsOf, stepsOf, ofSheet, entries, modelBytes, sheetChecks}
 use Rattle.sheets.specs.Holding.{taskOn}
-use Rattle.sheets.specs.LentTables.{ofTables, readChecks, writeChecks}
+use Rattle.sheets.specs.LentTables.{frameOf, costsOf, marksOf, ofTables, readChecks, writeChecks}
 use Rattle.sheet_laws.proofs.Refusals as sheet
-use Rattle.cut_sheets.specs.CutSheet.{cutSheetChecks, cutsOf, rebuildChecks, writeCutsChecks}
+use Rattle.cut_sheets.specs.CutPart.{cutBytes, countOf}
+use Rattle.cut_sheets.specs.CutSheet.{tailOf, cutSheetChecks, cutsOf, cutList, rebuildChecks, cutSheetOf, writeCutsChecks}
 use Rattle.cut_laws.proofs.Refusals as cut
 use Rattle.question_laws.proofs.Refusals as asked
 use Rattle.run_laws.proofs.Refusals as ran
@@ -40,172 +43,149 @@ use Rattle.cut_writing.specs.CutWriting as cutWriting
 use Rattle.asking.specs.declared.Asked.{Asked}
 use Rattle.asking.specs.declared.Asked.the-variants as answered
 use Rattle.asking.specs.Question as question
-use Rattle.asking.specs.Question.{estimatesOf}
+use Rattle.asking.specs.Question.{statesIn, estimatesOf}
+use Rattle.run.specs.declared.Row.{Row}
 use Rattle.run.specs.Run as run
 use Rattle.run.specs.Run.{plan, noPlan, «open»}
+use Rattle.refining.specs.Listing.{listed, cutPlace}
 use Rattle.running.specs.declared.Answer.{Answer}
 use Rattle.running.specs.declared.Answer.the-variants as answer
 use Rattle.running.specs.Running as running
 use Rattle.running.specs.Running.{told}
+use Rattle.rows.specs.Rows as rows
+use Rattle.rows.specs.Rows.{rowChecks, rowRun}
 use Rattle.historian.specs.Entries.{answerNumber, fewPlaces, entryChecks, RunOutcome, runOutcome, madeBytes, runEntry, bytesOf, askChecks, AskOutcome, askOutcome, askEntry}
-
--- the same of an equal number
-carried : {a b n : ℕ} {X : Type 0} → a ≡ b → (b ≡ n) ↔ X → (a ≡ n) ↔ X
-carried e w = (λ p. w .0 (sym e ∙ p), λ x. e ∙ w .1 x)
+use Rattle.demands.proofs.RefusalNumbers.{has, sheetNumbers, cutNumbers, rebuildNumbers, questionNumbers, read-gives, write-gives, rebuild-gives, write-cuts-gives, question-gives, ask-gives, runNumbers, run-gives, row-run-gives, entry-gives, entry-low}
 
 -- ---- read_model
-module _ (s frame costs marks : List ℕ) {r : ModelRead} {f c m : List ℕ} (done : reading.outcome r f c m ≡ reading.reading s frame costs marks) (n : ℕ) (some : n ≡ 0 → ⊥) where
-  same-read : reading.number r ≡ reading.number (reading.reading s frame costs marks .answer)
-  same-read = ap (λ (o : reading.Outcome). reading.number (o .answer)) done
+module _ (s frame costs marks : List ℕ) {r : ModelRead} {f c m : List ℕ} (done : reading.outcome r f c m ≡ reading.reading s frame costs marks) where
+  pub read-model-judged : Judged (λ (o : reading.Outcome). reading.number (o .answer)) (λ n. reading.outcome (read.Refused n) frame costs marks) (readChecks s frame costs marks)
+      (reading.outcome (read.Held (columnsOf s) (stepsOf s)) (over (frameOf (ofSheet s)) frame) (over (costsOf (ofSheet s)) costs) (over (marksOf (ofSheet s)) marks)) (reading.outcome r f c m)
+  read-model-judged = subst (Judged _ _ _ _) (sym done) (sheet.reader s frame costs marks)
 
-  pub read-model-exactly : (reading.number r ≡ n) ↔ FirstToApply (readChecks s frame costs marks) n
-  read-model-exactly = carried same-read (sheet.read-only s frame costs marks n some, sheet.read-whenever s frame costs marks n some)
-
-  pub read-model-leaves : reading.number r ≡ n → reading.outcome r f c m ≡ reading.outcome (read.Refused n) frame costs marks
-  read-model-leaves e = done ∙ sheet.read-leaves s frame costs marks n some (sym same-read ∙ e)
+  pub read-model-numbers : has sheetNumbers (reading.number r) ≡ true
+  read-model-numbers = ap (has sheetNumbers) (read-model-judged .told) ∙ read-gives s frame costs marks
 
 -- ---- write_model
-module _ (columns steps : ℕ) (frame costs marks sheet₀ : List ℕ) {r : SheetWritten} {s : List ℕ} (done : writing.outcome r s ≡ writing.writing (ofTables columns steps frame costs marks) sheet₀) (n : ℕ) (some : n ≡ 0 → ⊥) where
-  same-written : writing.number r ≡ writing.number (writing.writing (ofTables columns steps frame costs marks) sheet₀ .answer)
-  same-written = ap (λ (o : writing.Outcome). writing.number (o .answer)) done
+module _ (columns steps : ℕ) (frame costs marks sheet₀ : List ℕ) {r : SheetWritten} {s : List ℕ} (done : writing.outcome r s ≡ writing.writing (ofTables columns steps frame costs marks) sheet₀) where
+  abbrev P : Source
+  P = ofTables columns steps frame costs marks
 
-  pub write-model-exactly : (writing.number r ≡ n) ↔ FirstToApply (writeChecks (ofTables columns steps frame costs marks) sheet₀) n
-  write-model-exactly =
-      let p = ofTables columns steps frame costs marks in
-      carried same-written (sheet.write-only p sheet₀ n some, sheet.write-whenever p sheet₀ n some)
+  pub write-model-judged : Judged (λ (o : writing.Outcome). writing.number (o .answer)) (λ n. writing.outcome (written.Refused n) sheet₀) (writeChecks P sheet₀)
+      (writing.outcome (written.Sheet (modelBytes (columnsIn P) (stepsIn P))) (over (sheetOf (entries P)) sheet₀)) (writing.outcome r s)
+  write-model-judged = subst (Judged _ _ _ _) (sym done) (sheet.writer P sheet₀)
 
-  pub write-model-leaves : writing.number r ≡ n → writing.outcome r s ≡ writing.outcome (written.Refused n) sheet₀
-  write-model-leaves e = done ∙ sheet.write-leaves (ofTables columns steps frame costs marks) sheet₀ n some (sym same-written ∙ e)
+  pub write-model-numbers : has sheetNumbers (writing.number r) ≡ true
+  write-model-numbers = ap (has sheetNumbers) (write-model-judged .told) ∙ write-gives P sheet₀
 
 -- ---- rebuild
-module _ (model s cuts : List ℕ) {r : CutsRebuilt} {c : List ℕ} (done : rebuilding.outcome r c ≡ rebuilding.rebuilding model s cuts) (n : ℕ) (some : n ≡ 0 → ⊥) where
-  same-rebuilt : rebuilding.number r ≡ rebuilding.number (rebuilding.rebuilding model s cuts .answer)
-  same-rebuilt = ap (λ (o : rebuilding.Outcome). rebuilding.number (o .answer)) done
+module _ (model s cuts : List ℕ) {r : CutsRebuilt} {c : List ℕ} (done : rebuilding.outcome r c ≡ rebuilding.rebuilding model s cuts) where
+  pub rebuild-judged : Judged (λ (o : rebuilding.Outcome). rebuilding.number (o .answer)) (λ n. rebuilding.outcome (rebuilt.Refused n) cuts) (rebuildChecks model s cuts)
+      (rebuilding.outcome (rebuilt.Cuts (countOf (tailOf s))) (over (cutList s) cuts)) (rebuilding.outcome r c)
+  rebuild-judged = subst (Judged _ _ _ _) (sym done) (cut.rebuilder model s cuts)
 
-  pub rebuild-exactly : (rebuilding.number r ≡ n) ↔ FirstToApply (rebuildChecks model s cuts) n
-  rebuild-exactly = carried same-rebuilt (cut.rebuild-exactly model s cuts n some)
-
-  pub rebuild-leaves : rebuilding.number r ≡ n → rebuilding.outcome r c ≡ rebuilding.outcome (rebuilt.Refused n) cuts
-  rebuild-leaves e = done ∙ cut.rebuild-leaves model s cuts n some (sym same-rebuilt ∙ e)
+  pub rebuild-numbers : has rebuildNumbers (rebuilding.number r) ≡ true
+  rebuild-numbers = ap (has rebuildNumbers) (rebuild-judged .told) ∙ rebuild-gives model s cuts
 
 -- ---- write_cuts
-module _ (model : List ℕ) (count : ℕ) (cuts sheet₀ : List ℕ) {r : CutsWritten} {s : List ℕ} (done : cutWriting.outcome r s ≡ cutWriting.writingCuts model count cuts sheet₀) (n : ℕ) (some : n ≡ 0 → ⊥) where
-  same-cuts-written : cutWriting.number r ≡ cutWriting.number (cutWriting.writingCuts model count cuts sheet₀ .answer)
-  same-cuts-written = ap (λ (o : cutWriting.Outcome). cutWriting.number (o .answer)) done
+module _ (model : List ℕ) (count : ℕ) (cuts sheet₀ : List ℕ) {r : CutsWritten} {s : List ℕ} (done : cutWriting.outcome r s ≡ cutWriting.writingCuts model count cuts sheet₀) where
+  pub write-cuts-judged : Judged (λ (o : cutWriting.Outcome). cutWriting.number (o .answer)) (λ n. cutWriting.outcome (cutsWritten.Refused n) sheet₀) (writeCutsChecks model count cuts sheet₀)
+      (cutWriting.outcome (cutsWritten.Sheet (length model + cutBytes count)) (over (cutSheetOf model count cuts) sheet₀)) (cutWriting.outcome r s)
+  write-cuts-judged = subst (Judged _ _ _ _) (sym done) (cut.writer model count cuts sheet₀)
 
-  pub write-cuts-exactly : (cutWriting.number r ≡ n) ↔ FirstToApply (writeCutsChecks model count cuts sheet₀) n
-  write-cuts-exactly = carried same-cuts-written (cut.write-exactly model count cuts sheet₀ n some)
-
-  pub write-cuts-leaves : cutWriting.number r ≡ n → cutWriting.outcome r s ≡ cutWriting.outcome (cutsWritten.Refused n) sheet₀
-  write-cuts-leaves e = done ∙ cut.write-leaves model count cuts sheet₀ n some (sym same-cuts-written ∙ e)
+  pub write-cuts-numbers : has cutNumbers (cutWriting.number r) ≡ true
+  write-cuts-numbers = ap (has cutNumbers) (write-cuts-judged .told) ∙ write-cuts-gives model count cuts sheet₀
 
 -- ---- question
-module _ (model s states estimates : List ℕ) {r : Asked} {l : List ℕ} (done : question.outcome r l ≡ question.asking model s states estimates) (n : ℕ) (some : n ≡ 0 → ⊥) where
-  same-asked : question.number r ≡ question.number (question.asking model s states estimates .answer)
-  same-asked = ap (λ (o : question.Outcome). question.number (o .answer)) done
+module _ (model s states est : List ℕ) {r : Asked} {l : List ℕ} (done : question.outcome r l ≡ question.asking model s states est) where
+  pub question-judged : Judged (λ (o : question.Outcome). question.number (o .answer)) (λ n. question.outcome (answered.Refused n) est) (question.questionChecks model s states est)
+      (question.outcome (answered.Estimates (statesIn (taskOn model) states)) (over (estimatesOf (taskOn model) (cutsOf s) states) est)) (question.outcome r l)
+  question-judged = subst (Judged _ _ _ _) (sym done) (asked.asker model s states est)
 
-  pub question-exactly : (question.number r ≡ n) ↔ FirstToApply (question.questionChecks model s states estimates) n
-  question-exactly = carried same-asked (asked.question-exactly model s states estimates n some)
-
-  pub question-leaves : question.number r ≡ n → question.outcome r l ≡ question.outcome (answered.Refused n) estimates
-  question-leaves e = done ∙ asked.question-leaves model s states estimates n some (sym same-asked ∙ e)
+  pub question-numbers : has questionNumbers (question.number r) ≡ true
+  question-numbers = ap (has questionNumbers) (question-judged .told) ∙ question-gives model s states est
 
 -- ---- run
-module _ (s : List ℕ) (room : ℕ) (cuts rows : List ℕ) {r : Answer} {c l : List ℕ} (done : running.outcome r c l ≡ running.running s room cuts rows) (n : ℕ) (some : n ≡ 0 → ⊥) where
-  same-run : running.number r ≡ running.number (running.running s room cuts rows .answer)
-  same-run = ap (λ (o : running.Outcome). running.number (o .answer)) done
+module _ (s : List ℕ) (room : ℕ) (cuts rs : List ℕ) {r : Answer} {c l : List ℕ} (done : running.outcome r c l ≡ running.running s room cuts rs) where
+  pub run-judged : Judged (λ (o : running.Outcome). running.number (o .answer)) (λ n. running.outcome (answer.Refused n) cuts rs) (running.runChecks s room cuts rs)
+      (running.made (taskOn s) (run.run (taskOn s) room) cuts rs) (running.outcome r c l)
+  run-judged = subst (Judged _ _ _ _) (sym done) (ran.runner s room cuts rs)
 
-  pub run-exactly : (running.number r ≡ n) ↔ FirstToApply (running.runChecks s room cuts rows) n
-  run-exactly = carried same-run (ran.run-exactly s room cuts rows n some)
+  pub run-numbers : has runNumbers (running.number r) ≡ true
+  run-numbers = ap (has runNumbers) (run-judged .told) ∙ run-gives s room cuts rs
 
-  pub run-leaves : running.number r ≡ n → running.outcome r c l ≡ running.outcome (answer.Refused n) cuts rows
-  run-leaves e = done ∙ ran.run-leaves s room cuts rows n some (sym same-run ∙ e)
+-- ---- the run of crate rows
+module _ (s : List ℕ) (room : ℕ) (cuts : List ℕ) (rs : List Row) where
+  abbrev rowsMade : rows.Outcome
+  rowsMade = let o = run.run (taskOn s) room in rows.outcome (told (taskOn s) (run.blocksIn o) (o .answer)) (over (listed cutPlace (o .made)) cuts) (over (run.rowsOf (taskOn s) (o .answer)) rs)
 
--- ---- elhavir_run: an answer below 2^56, of kind 0, is a refusal's number
-pub large : (t : Task) (b : ℕ) (a : run.Answer) → 2 ^ 56 ≤ answerNumber (told t b a)
+  row-runner : Judged (λ (o : rows.Outcome). running.number (o .answer)) (λ n. rows.outcome (answer.Refused n) cuts rs) (rowChecks s room cuts rs) rowsMade (rowRun s room cuts rs)
+  unfolding rowRun rowChecks running.number
+  row-runner =
+      let t = taskOn s in
+      judges _ _ (rowChecks s room cuts rs) _ (numbered-append (sheetChecks s) _ (sheet.numbered-sheet s) (λ z. omega arith, (λ z. omega arith, (λ z. omega arith, tt))))
+      (ran.told-number t (run.blocksIn (run.run t room)) (run.run t room .answer)) refl
+
+  module _ {a : Answer} {c : List ℕ} {l : List Row} (done : rows.outcome a c l ≡ rowRun s room cuts rs) where
+    pub row-run-judged : Judged (λ (o : rows.Outcome). running.number (o .answer)) (λ n. rows.outcome (answer.Refused n) cuts rs) (rowChecks s room cuts rs) rowsMade (rows.outcome a c l)
+    row-run-judged = subst (Judged _ _ _ _) (sym done) row-runner
+
+    pub row-run-numbers : has runNumbers (running.number a) ≡ true
+    row-run-numbers = ap (has runNumbers) (row-run-judged .told) ∙ row-run-gives s room cuts rs
+
+-- ---- elhavir_run: an answer of kind 0, below 2^56, is a refusal's number; one of another kind refuses nothing
+abbrev pub refusalIn : ℕ → ℕ
+refusalIn r = pick (ltb r (2 ^ 56)) r 0
+
+large : (t : Task) (b : ℕ) (a : run.Answer) → 2 ^ 56 ≤ answerNumber (told t b a)
 unfolding answerNumber told
 large t b (plan ss) = omega arith
 large t b noPlan = omega arith
 large t b («open» e) = omega arith
 
-module _ (s : List ℕ) (room : ℕ) (cuts rows : List ℕ) where
-  pub numbered-entry : Numbered (entryChecks s room cuts rows)
+module _ (s : List ℕ) (room : ℕ) (cuts rs : List ℕ) where
+  numbered-entry : Numbered (entryChecks s room cuts rs)
   unfolding entryChecks fewPlaces
   numbered-entry = numbered-append (sheetChecks s) _ (sheet.numbered-sheet s) (λ z. omega arith, (λ z. omega arith, (λ z. omega arith, tt)))
 
   abbrev R : ℕ
-  R = refusal (entryChecks s room cuts rows)
+  R = refusal (entryChecks s room cuts rs)
 
-  pub entry-made : R ≡ 0 → runEntry s room cuts rows ≡ madeBytes (taskOn s) (run.run (taskOn s) room) cuts rows
+  pub entry-made : R ≡ 0 → runEntry s room cuts rs ≡ madeBytes (taskOn s) (run.run (taskOn s) room) cuts rs
   unfolding runEntry
   entry-made z = simp (eq-eqb R 0 z)
 
-  pub entry-refused : (R ≡ 0 → ⊥) → runEntry s room cuts rows ≡ runOutcome R cuts rows
+  pub entry-refused : (R ≡ 0 → ⊥) → runEntry s room cuts rs ≡ runOutcome R cuts rs
   unfolding runEntry
   entry-refused z = simp (ne-eqb R 0 z)
 
-  module _ {r : ℕ} {c l : List ℕ} (done : runOutcome r c l ≡ runEntry s room cuts rows) where
-    made-large : R ≡ 0 → 2 ^ 56 ≤ r
-    unfolding madeBytes
-    made-large z =
-        let o = run.run (taskOn s) room in
-        let e : r ≡ answerNumber (told (taskOn s) (run.blocksIn o) (o .answer)) = ap (λ (x : RunOutcome). x .answer) (done ∙ entry-made z) in
-        omega (arith, large (taskOn s) (run.blocksIn o) (o .answer))
+  entry-runner : Judged (λ (o : RunOutcome). refusalIn (o .answer)) (λ n. runOutcome n cuts rs) (entryChecks s room cuts rs) (madeBytes (taskOn s) (run.run (taskOn s) room) cuts rs) (runEntry s room cuts rs)
+  unfolding runEntry madeBytes
+  entry-runner =
+      let o = run.run (taskOn s) room in
+      let v = answerNumber (told (taskOn s) (run.blocksIn o) (o .answer)) in
+      judges _ _ (entryChecks s room cuts rs) _ numbered-entry (ap (λ (b : Bool). pick b v 0) (le-ltb v (2 ^ 56) (large (taskOn s) (run.blocksIn o) (o .answer))))
+      (ap (λ (b : Bool). pick b R 0) (lt-ltb R (2 ^ 56) (omega (arith, entry-low s room cuts rs))))
 
-    -- what is of kind 0 was refused
-    pub small-refused : r < 2 ^ 56 → runOutcome r c l ≡ runOutcome R cuts rows
-    small-refused h = done ∙ entry-refused (λ z. omega (arith, made-large z))
+  module _ {r : ℕ} {c l : List ℕ} (done : runOutcome r c l ≡ runEntry s room cuts rs) where
+    pub elhavir-run-judged : Judged (λ (o : RunOutcome). refusalIn (o .answer)) (λ n. runOutcome n cuts rs) (entryChecks s room cuts rs) (madeBytes (taskOn s) (run.run (taskOn s) room) cuts rs) (runOutcome r c l)
+    elhavir-run-judged = subst (Judged _ _ _ _) (sym done) entry-runner
 
-    module _ (n : ℕ) (some : n ≡ 0 → ⊥) (kind : n < 2 ^ 56) where
-      pub elhavir-run-exactly : (r ≡ n) ↔ FirstToApply (entryChecks s room cuts rows) n
-      elhavir-run-exactly = (
-        λ e. applies-first (entryChecks s room cuts rows) numbered-entry n some (sym (ap (λ (x : RunOutcome). x .answer) (small-refused (omega arith))) ∙ e),
-        λ f.
-            let q : R ≡ n = first-refuses (entryChecks s room cuts rows) n some f in
-            ap (λ (x : RunOutcome). x .answer) (done ∙ entry-refused (λ z. some (sym q ∙ z))) ∙ q,
-      )
-
-      pub elhavir-run-leaves : r ≡ n → runOutcome r c l ≡ runOutcome n cuts rows
-      elhavir-run-leaves e =
-          let w = small-refused (omega arith) in
-          w ∙ ap (λ (k : ℕ). runOutcome k cuts rows) (sym (ap (λ (x : RunOutcome). x .answer) w) ∙ e)
+    pub elhavir-run-numbers : has runNumbers (refusalIn r) ≡ true
+    elhavir-run-numbers = ap (has runNumbers) (elhavir-run-judged .told) ∙ entry-gives s room cuts rs
 
 -- ---- elhavir_question: 0 when done, else the refusal's number
-module _ (model s states estimates : List ℕ) where
-  pub numbered-ask : Numbered (askChecks model s states estimates)
-  unfolding askChecks fewPlaces
-  numbered-ask = numbered-append (cutSheetChecks model s) _ (cut.numbered-sheets model s) (λ z. omega arith, (λ z. omega arith, tt))
+module _ (model s states est : List ℕ) where
+  abbrev pub asked-made : AskOutcome
+  asked-made = askOutcome 0 (over (bytesOf (estimatesOf (taskOn model) (cutsOf s) states)) est)
 
-  abbrev A : ℕ
-  A = refusal (askChecks model s states estimates)
+  pub entry-asker : Judged (λ (o : AskOutcome). o .answer) (λ n. askOutcome n est) (askChecks model s states est) asked-made (askEntry model s states est)
+  unfolding askEntry askChecks fewPlaces
+  entry-asker = judges _ _ (askChecks model s states est) _ (numbered-append (cutSheetChecks model s) _ (cut.numbered-sheets model s) (λ z. omega arith, (λ z. omega arith, tt))) refl refl
 
-  pub ask-made : A ≡ 0 → askEntry model s states estimates ≡ askOutcome 0 (over (bytesOf (estimatesOf (taskOn model) (cutsOf s) states)) estimates)
-  unfolding askEntry
-  ask-made z = simp (eq-eqb A 0 z)
+  module _ {r : ℕ} {l : List ℕ} (done : askOutcome r l ≡ askEntry model s states est) where
+    pub elhavir-question-judged : Judged (λ (o : AskOutcome). o .answer) (λ n. askOutcome n est) (askChecks model s states est) asked-made (askOutcome r l)
+    elhavir-question-judged = subst (Judged _ _ _ _) (sym done) entry-asker
 
-  ask-refused : (A ≡ 0 → ⊥) → askEntry model s states estimates ≡ askOutcome A estimates
-  unfolding askEntry
-  ask-refused z = simp (ne-eqb A 0 z)
-
-  pub ask-number : askEntry model s states estimates .answer ≡ A
-  unfolding askEntry
-  ask-number = split (ℕ-discrete A 0)
-    where
-      split : Dec (A ≡ 0) → askEntry model s states estimates .answer ≡ A
-      split (yes z) = simp (eq-eqb A 0 z) (sym z)
-      split (no z) = simp (ne-eqb A 0 z) refl
-
-  module _ {r : ℕ} {l : List ℕ} (done : askOutcome r l ≡ askEntry model s states estimates) (n : ℕ) (some : n ≡ 0 → ⊥) where
-    same-ask : r ≡ A
-    same-ask = ap (λ (o : AskOutcome). o .answer) done ∙ ask-number
-
-    pub elhavir-question-exactly : (r ≡ n) ↔ FirstToApply (askChecks model s states estimates) n
-    elhavir-question-exactly = (
-      λ e. applies-first (askChecks model s states estimates) numbered-ask n some (sym same-ask ∙ e),
-      λ f. same-ask ∙ first-refuses (askChecks model s states estimates) n some f,
-    )
-
-    pub elhavir-question-leaves : r ≡ n → askOutcome r l ≡ askOutcome n estimates
-    elhavir-question-leaves e =
-        let q : A ≡ n = sym same-ask ∙ e in
-        done ∙ ask-refused (λ z. some (sym q ∙ z)) ∙ ap (λ (k : ℕ). askOutcome k estimates) q
+    pub elhavir-question-numbers : has questionNumbers r ≡ true
+    elhavir-question-numbers = ap (has questionNumbers) (elhavir-question-judged .told) ∙ ask-gives model s states est

@@ -76,7 +76,7 @@ module _ (n m : ℕ) (frame costs marks sheet₀ : List ℕ) (bound : (j : ℕ) 
 
   write-quiet : W ≡ 0
   unfolding writing.number
-  write-quiet = sym (ap (λ (o : writing.Outcome). writing.number (o .answer)) wrote ∙ sheet.write-number P sheet₀)
+  write-quiet = sym (ap (λ (o : writing.Outcome). writing.number (o .answer)) wrote ∙ sheet.writer P sheet₀ .told)
 
   fields-good : judged (entries P) ≡ 0
   unfolding writeChecks judged
@@ -108,7 +108,7 @@ module _ (s f c k : List ℕ) (bs : Bytes s) {n m : ℕ} {f′ c′ k′ : List 
 
   read-quiet : R ≡ 0
   unfolding reading.number
-  read-quiet = sym (ap (λ (o : reading.Outcome). reading.number (o .answer)) read ∙ sheet.read-number s f c k)
+  read-quiet = sym (ap (λ (o : reading.Outcome). reading.number (o .answer)) read ∙ sheet.reader s f c k .told)
 
   sheet-good : judgeSheet s ≡ 0
   unfolding readChecks judgeSheet
@@ -132,7 +132,7 @@ module _ (model : List ℕ) (count : ℕ) (cuts sheet₀ : List ℕ) (sets : (i 
 
   cuts-quiet : K ≡ 0
   unfolding cutWriting.number
-  cuts-quiet = sym (ap (λ (o : cutWriting.Outcome). cutWriting.number (o .answer)) wrote ∙ cut.written-number model count cuts sheet₀)
+  cuts-quiet = sym (ap (λ (o : cutWriting.Outcome). cutWriting.number (o .answer)) wrote ∙ cut.writer model count cuts sheet₀ .told)
 
   given-quiet : (judgeSheet model ≡ 0) × (judged (cutEntries (taskOn model) (ofCuts count cuts)) ≡ 0)
   unfolding writeCutsChecks givenChecks judgeSheet judged
@@ -163,7 +163,7 @@ module _ (model s c₀ : List ℕ) (bs : Bytes s) {n : ℕ} {c : List ℕ} (rebu
 
   rebuild-quiet : Q ≡ 0
   unfolding rebuilding.number
-  rebuild-quiet = sym (ap (λ (o : rebuilding.Outcome). rebuilding.number (o .answer)) rebuilt ∙ cut.rebuilt-number model s c₀)
+  rebuild-quiet = sym (ap (λ (o : rebuilding.Outcome). rebuilding.number (o .answer)) rebuilt ∙ cut.rebuilder model s c₀ .told)
 
   cut-sheet-good : refusal (cutSheetChecks model s) ≡ 0
   unfolding rebuildChecks

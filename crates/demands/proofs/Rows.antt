@@ -1,25 +1,18 @@
--- The demands of the run whose rows are lent as structs, and of the function that puts them: one outcome, each refusal exactly, and the answers of
--- `run` with the plan's rows in the list. For whoever knows only the contracts of crate `rows`.
+-- The demands of the run whose rows are lent as structs, and of the function that puts them: one outcome, and the answers of `run`
+-- with the plan's rows in the list. For whoever knows only the contracts of crate `rows`.
 use Prim.Native.Nat.{ℕ, _*_}
-use native.Mathlib.Omega.{arith}
-use native.Mathlib.Decide.{ℕ-discrete}
 use mathlib.Core.Path.{_≡_, refl, sym, ap, _∙_, subst}
-use mathlib.Core.Logic.{_↔_}
-use mathlib.Core.Bool.{true}
-use mathlib.Core.List.{List, [], _∷_}
+use mathlib.Core.List.{List}
 use mathlib.Core.Option.{some}
 use lib.ListN.{length, replicate, length-replicate}
-use borrow.Author.Tests.{eq-eqb, ne-eqb}
+use borrow.Author.Tests.{eq-eqb}
 use Rattle.task.specs.declared.Step.{Step}
 use Rattle.task.specs.Loops.{over}
 use Rattle.task.specs.Task.{Task, start, costs}
 use Rattle.blocks.specs.declared.Cut.{Cut}
 use Rattle.distances.specs.Distances.{estimate}
 use Rattle.fields.specs.Judging.{refusal}
-use Rattle.fields.proofs.ExactLaws.{FirstToApply, Numbered, numbered-append, applies-first, first-refuses}
-use Rattle.sheets.specs.ModelSheet.{sheetChecks}
 use Rattle.sheets.specs.Holding.{taskOn}
-use Rattle.sheet_laws.proofs.Refusals.{numbered-sheet}
 use Rattle.run.specs.declared.Row.{Row}
 use Rattle.run.specs.Run as run
 use Rattle.run.specs.Run.{plan, noPlan, «open», rows, rowsOf, blocksIn}
@@ -29,14 +22,12 @@ use Rattle.running.specs.declared.Answer.{Answer}
 use Rattle.running.specs.declared.Answer.the-variants.{Plan, NoPlan, Open, Refused}
 use Rattle.running.specs.Running as running
 use Rattle.running.specs.Running.{told, number}
-use Rattle.run_laws.proofs.Refusals.{told-number}
 use Rattle.run_laws.proofs.Answers as said
 use Rattle.counts.specs.Counts.{usable}
 use Rattle.rows.specs.Rows as lent
-use Rattle.rows.specs.Rows.{filled, filling, rowChecks, outcome, rowRun}
+use Rattle.rows.specs.Rows.{filled, filling, outcome, rowRun}
 use Rattle.rows.proofs.RowRunLaws.{checks-same}
-use Rattle.demands.proofs.Acceptances.{NoneApplies, exactly}
-use Rattle.demands.proofs.RefusalNumbers.{has, give-append, give-refusal, sheet-checks}
+use Rattle.demands.proofs.Refusals.{row-run-judged}
 
 -- ---- one outcome
 
@@ -84,54 +75,7 @@ module _ (s : List ℕ) (room : ℕ) (cuts : List ℕ) (rs : List Row) where
   abbrev o : run.Outcome
   o = run.run t room
 
-  abbrev R : ℕ
-  R = refusal (rowChecks s room cuts rs)
-
-  numbered-rows : Numbered (rowChecks s room cuts rs)
-  unfolding rowChecks
-  numbered-rows = numbered-append (sheetChecks s) _ (numbered-sheet s) (λ z. omega arith, (λ z. omega arith, (λ z. omega arith, tt)))
-
-  rows-made : R ≡ 0 → rowRun s room cuts rs ≡ outcome (told t (blocksIn o) (o .answer)) (over (listed cutPlace (o .made)) cuts) (over (rowsOf t (o .answer)) rs)
-  unfolding rowRun
-  rows-made z = simp (eq-eqb R 0 z)
-
-  rows-refused : (R ≡ 0 → ⊥) → rowRun s room cuts rs ≡ outcome (Refused R) cuts rs
-  unfolding rowRun
-  rows-refused z = simp (ne-eqb R 0 z)
-
   module _ {a : Answer} {c : List ℕ} {l : List Row} (done : outcome a c l ≡ rowRun s room cuts rs) where
-    same-number : number a ≡ R
-    unfolding number
-    same-number = split (ℕ-discrete R 0)
-      where
-        split : Dec (R ≡ 0) → number a ≡ R
-        split (yes z) = ap (λ (x : lent.Outcome). number (x .answer)) (done ∙ rows-made z) ∙ told-number t (blocksIn o) (o .answer) ∙ sym z
-        split (no z) = ap (λ (x : lent.Outcome). number (x .answer)) (done ∙ rows-refused z)
-
-    -- demand 1: a number is returned exactly when its row applies and no earlier check does, and then everything lent is as found
-    module _ (n : ℕ) (is : n ≡ 0 → ⊥) where
-      pub row-run-exactly : (number a ≡ n) ↔ FirstToApply (rowChecks s room cuts rs) n
-      row-run-exactly = (
-        λ e. applies-first (rowChecks s room cuts rs) numbered-rows n is (sym same-number ∙ e),
-        λ f. same-number ∙ first-refuses (rowChecks s room cuts rs) n is f,
-      )
-
-      pub row-run-leaves : number a ≡ n → outcome a c l ≡ outcome (Refused n) cuts rs
-      row-run-leaves e =
-          let q : R ≡ n = sym same-number ∙ e in
-          done ∙ rows-refused (λ z. is (sym q ∙ z)) ∙ ap (λ (k : ℕ). outcome (Refused k) cuts rs) q
-
-    pub row-run-accepts : NoneApplies (rowChecks s room cuts rs) ↔ (outcome a c l ≡ outcome (told t (blocksIn o) (o .answer)) (over (listed cutPlace (o .made)) cuts) (over (rowsOf t (o .answer)) rs))
-    row-run-accepts =
-        let tells : lent.Outcome → ℕ = λ x. number (x .answer) in
-        exactly tells (rowChecks s room cuts rs) numbered-rows (λ z. done ∙ rows-made z) same-number (told-number t (blocksIn o) (o .answer))
-
-    pub row-run-numbers : has (0 ∷ 1 ∷ 2 ∷ 3 ∷ 4 ∷ 5 ∷ 6 ∷ 7 ∷ 8 ∷ []) (number a) ≡ true
-    unfolding rowChecks
-    row-run-numbers =
-        let p = has (0 ∷ 1 ∷ 2 ∷ 3 ∷ 4 ∷ 5 ∷ 6 ∷ 7 ∷ 8 ∷ []) in
-        ap p same-number ∙ give-refusal p refl (rowChecks s room cuts rs) (give-append p (sheetChecks s) _ (sheet-checks p refl refl refl refl refl refl s) (refl, (refl, (refl, tt))))
-
     -- demands 2 and 3 of the answer and the cuts: it is `run`, with a list of values for as many places
     module _ (kept : number a ≡ 0) where
       abbrev values : List ℕ
@@ -141,12 +85,12 @@ module _ (s : List ℕ) (room : ℕ) (cuts : List ℕ) (rs : List Row) where
       ending = running.running s room cuts values
 
       same-made : outcome a c l ≡ outcome (told t (blocksIn o) (o .answer)) (over (listed cutPlace (o .made)) cuts) (over (rowsOf t (o .answer)) rs)
-      same-made = done ∙ rows-made (sym same-number ∙ kept)
+      same-made = row-run-judged s room cuts rs done .done kept
 
       pub same-run : running.outcome a c (ending .rows) ≡ ending
       unfolding running.running running.made
       same-run =
-          let z : refusal (running.runChecks s room cuts values) ≡ 0 = sym (checks-same s room cuts rs values (length-replicate {A = ℕ} (usable 255 (length rs) * 3) 0)) ∙ sym same-number ∙ kept in
+          let z : refusal (running.runChecks s room cuts values) ≡ 0 = sym (checks-same s room cuts rs values (length-replicate {A = ℕ} (usable 255 (length rs) * 3) 0)) ∙ sym (row-run-judged s room cuts rs done .told) ∙ kept in
           simp (eq-eqb (refusal (running.runChecks s room cuts values)) 0 z)
           (rw (ap (λ (x : lent.Outcome). x .answer) same-made, ap (λ (x : lent.Outcome). x .cuts) same-made) refl)
 

@@ -1,16 +1,16 @@
--- 01, "Refusal numbers": a number is given exactly when its row applies and no earlier check does.
+-- 01, "Refusal numbers": a number is given exactly when its row applies and no earlier check does, and nothing is refused exactly when no check applies.
 use Prim.Native.Nat.{ℕ, zero, suc, _<_, zero-le, suc-le-suc}
 use native.Mathlib.Nat.{le-of-suc-le-suc, not-suc-le-zero}
 use native.Mathlib.Omega.{arith}
-use mathlib.Core.Path.{_≡_, refl, sym, _∙_}
+use mathlib.Core.Path.{_≡_, refl, sym, ap, _∙_}
 use mathlib.Core.Logic.{_↔_}
 use mathlib.Core.Bool.{Bool, true, false}
 use mathlib.Core.List.{List, [], _∷_, _++_}
 use lib.Dec.{eqb}
 use lib.ListN.{length, getD}
-use borrow.Author.Tests.{eqb-true}
+use borrow.Author.Tests.{eqb-true, eq-eqb}
 use Rattle.fields.specs.Judging.{Entry, Check, check, checksOf, pick, refusal, each}
-use Rattle.fields.proofs.JudgingLaws.{stop, go, no-checks, refused-is}
+use Rattle.fields.proofs.JudgingLaws.{stop, go, no-checks, passes, passed, refused-is}
 
 abbrev pub noCheck : Check
 noCheck = check 0 false
@@ -86,26 +86,49 @@ found (c ∷ cs) (suc k) n z l e h b = first-passes c cs (b 0 (omega arith)) ∙
 pub first-refuses : (cs : List Check) (n : ℕ) → (n ≡ 0 → ⊥) → FirstToApply cs n → refusal cs ≡ n
 first-refuses cs n z r = found cs (r .place) n z (r .below) (r .number) (r .applies) (r .before)
 
--- ---- what an operation comes to where it is done if no check applies, and else refused with the number of the first that does
-pub record Refuses {O : Type 0} (number : O → ℕ) (refused : ℕ → O) (cs : List Check) (o : O) : Type 0 where
+-- ---- accepted or refused
+
+-- no check applies
+abbrev pub NoneApplies : List Check → Type 0
+NoneApplies cs = (k : ℕ) → k < length cs → getD cs k noCheck .applies ≡ false
+
+none-quiet : (cs : List Check) → NoneApplies cs → refusal cs ≡ 0
+none-quiet [] h = sym no-checks
+none-quiet (c ∷ cs) h = sym (passes (c .number) (c .applies) cs (h 0 (suc-le-suc zero-le)) (sym (none-quiet cs (λ k l. h (suc k) (suc-le-suc l)))))
+
+quiet-none : (cs : List Check) → Numbered cs → refusal cs ≡ 0 → NoneApplies cs
+quiet-none [] p z k l = absurd (not-suc-le-zero l)
+quiet-none (c ∷ cs) p z zero l = passed (c .number) (c .applies) cs (p .0) z .0
+quiet-none (c ∷ cs) p z (suc k) l = quiet-none cs (p .1) (passed (c .number) (c .applies) cs (p .0) z .1) k (le-of-suc-le-suc l)
+
+-- what an operation comes to that is made if no check applies, and else refused with the number of the first that does
+pub record Judged {O : Type 0} (number : O → ℕ) (refused : ℕ → O) (cs : List Check) (made o : O) : Type 0 where
   pub told : number o ≡ refusal cs
+  pub done : number o ≡ 0 → o ≡ made
+  -- it is made exactly when no check applies
+  pub accepts : NoneApplies cs ↔ (o ≡ made)
   -- the number n is returned exactly when its row applies and no earlier check does
   pub exactly : (n : ℕ) → (n ≡ 0 → ⊥) → (number o ≡ n) ↔ FirstToApply cs n
-  -- and everything lent is as found
+  -- and then everything lent is as found
   pub leaves : (n : ℕ) → (n ≡ 0 → ⊥) → number o ≡ n → o ≡ refused n
 
-pub refuses : {O : Type 0} (number : O → ℕ) (refused : ℕ → O) (cs : List Check) (done : O) → Numbered cs → number done ≡ 0 → ((n : ℕ) → number (refused n) ≡ n)
-    → Refuses number refused cs (pick (eqb (refusal cs) 0) done (refused (refusal cs)))
-refuses number refused cs done numbered none same =
+pub judges : {O : Type 0} (number : O → ℕ) (refused : ℕ → O) (cs : List Check) (made : O) → Numbered cs → number made ≡ 0 → number (refused (refusal cs)) ≡ refusal cs
+    → Judged number refused cs made (pick (eqb (refusal cs) 0) made (refused (refusal cs)))
+judges number refused cs made numbered none same =
     record {
       told = said (eqb R 0) refl;
+      done = λ e. goes (sym (said (eqb R 0) refl) ∙ e);
+      accepts = (λ n. goes (none-quiet cs n), λ e. quiet-none cs numbered (sym (said (eqb R 0) refl) ∙ ap number e ∙ none));
       exactly = λ n some. (λ e. applies-first cs numbered n some (sym (said (eqb R 0) refl) ∙ e), λ r. said (eqb R 0) refl ∙ first-refuses cs n some r);
-      leaves = λ n some e. sym (refused-is refused cs done (sym e ∙ said (eqb R 0) refl) some);
+      leaves = λ n some e. sym (refused-is refused cs made (sym e ∙ said (eqb R 0) refl) some);
     }
   where
     R : ℕ
     R = refusal cs
 
-    said : (b : Bool) → eqb R 0 ≡ b → number (pick b done (refused R)) ≡ R
+    said : (b : Bool) → eqb R 0 ≡ b → number (pick b made (refused R)) ≡ R
     said true h = none ∙ sym (eqb-true R 0 h)
-    said false h = same R
+    said false h = same
+
+    goes : R ≡ 0 → pick (eqb R 0) made (refused R) ≡ made
+    goes z = ap (λ (b : Bool). pick b made (refused R)) (eq-eqb R 0 z)

@@ -31,7 +31,7 @@ use Rattle.asking.specs.declared.Asked.{Asked}
 use Rattle.asking.specs.declared.Asked.the-variants.{Estimates, Refused}
 use Rattle.asking.specs.Question.{Outcome, stateIn, statesIn, badStates, estimateAt, estimatesOf, valued, questionChecks, outcome, number, asking}
 use Rattle.asking.proofs.AnswerLaws.{state-good}
-use Rattle.question_laws.proofs.Refusals.{asked-number}
+use Rattle.question_laws.proofs.Refusals.{asker}
 
 -- a value that is written for an estimate says that estimate
 valued-back : (o : Option Tenths) → ((e : Tenths) → o ≡ some e → e < limits .«no_way») → valued (Option·getD o (limits .«no_way»)) ≡ o
@@ -117,7 +117,7 @@ module _ (model s states est : List ℕ) {n : ℕ} {next : List ℕ} (done : out
 
   quiet : refusal (questionChecks model s states est) ≡ 0
   unfolding number
-  quiet = sym (asked-number model s states est) ∙ ap (λ (o : Outcome). number (o .answer)) (sym done)
+  quiet = sym (asker model s states est .told) ∙ ap (λ (o : Outcome). number (o .answer)) (sym done)
 
   parts : (refusal (cutSheetChecks model s) ≡ 0) × (refusal (check 11 (badStates m states) ∷ tooFew (statesIn m states) est ∷ []) ≡ 0)
   unfolding questionChecks

@@ -31,7 +31,7 @@ use Rattle.running.specs.declared.Answer.{Answer}
 use Rattle.running.specs.declared.Answer.the-variants.{Plan, NoPlan, Open, Refused}
 use Rattle.running.specs.Running.{roomChecks, runChecks, told, number, Outcome, outcome, made, running}
 use Rattle.running.proofs.RunningLaws.{room-fits}
-use Rattle.run_laws.proofs.Refusals.{run-number}
+use Rattle.run_laws.proofs.Refusals.{runner}
 use Rattle.run_laws.proofs.Flaws.{OnePerFlaw, one-per-flaw}
 
 -- a plan in the list: its steps, its cost, and that none is cheaper
@@ -94,7 +94,7 @@ module _ (s : List ℕ) (room : ℕ) (cuts rows₀ : List ℕ) where
 
   module _ {a : Answer} {cuts′ rows′ : List ℕ} (done : outcome a cuts′ rows′ ≡ running s room cuts rows₀) (kind : number a ≡ 0) where
     quiet : refusal (runChecks s room cuts rows₀) ≡ 0
-    quiet = sym (run-number s room cuts rows₀) ∙ ap (λ (o : Outcome). number (o .answer)) (sym done) ∙ kind
+    quiet = sym (runner s room cuts rows₀ .told) ∙ ap (λ (o : Outcome). number (o .answer)) (sym done) ∙ kind
 
     parts : (refusal (sheetChecks s) ≡ 0) × (refusal (roomChecks room cuts rows₀) ≡ 0)
     unfolding runChecks

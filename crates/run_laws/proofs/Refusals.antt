@@ -3,11 +3,9 @@
 use Prim.Native.Nat.{ℕ}
 use native.Mathlib.Omega.{arith}
 use mathlib.Core.Path.{_≡_, refl}
-use mathlib.Core.Logic.{_↔_}
 use mathlib.Core.List.{List}
 use Rattle.task.specs.Task.{Task}
-use Rattle.fields.specs.Judging.{refusal}
-use Rattle.fields.proofs.ExactLaws.{FirstToApply, Numbered, numbered-append, Refuses, refuses}
+use Rattle.fields.proofs.ExactLaws.{Numbered, numbered-append, Judged, judges}
 use Rattle.sheets.specs.ModelSheet.{sheetChecks}
 use Rattle.sheets.specs.Holding.{taskOn}
 use Rattle.sheet_laws.proofs.Refusals.{numbered-sheet}
@@ -24,22 +22,12 @@ told-number t b noPlan = refl
 told-number t b («open» e) = refl
 
 module _ (s : List ℕ) (room : ℕ) (cuts rows : List ℕ) where
-  pub numbered : Numbered (runChecks s room cuts rows)
+  numbered : Numbered (runChecks s room cuts rows)
   unfolding runChecks roomChecks
   numbered = numbered-append (sheetChecks s) _ (numbered-sheet s) (λ z. omega arith, (λ z. omega arith, (λ z. omega arith, tt)))
 
-  runner : Refuses (λ (o : Outcome). number (o .answer)) (λ n. outcome (Refused n) cuts rows) (runChecks s room cuts rows) (running s room cuts rows)
+  pub runner : Judged (λ (o : Outcome). number (o .answer)) (λ n. outcome (Refused n) cuts rows) (runChecks s room cuts rows) (made (taskOn s) (run.run (taskOn s) room) cuts rows) (running s room cuts rows)
   unfolding running made number
   runner =
       let t = taskOn s in
-      refuses _ _ (runChecks s room cuts rows) _ numbered (told-number t (run.blocksIn (run.run t room)) (run.run t room .answer)) (λ n. refl)
-
-  pub run-number : number (running s room cuts rows .answer) ≡ refusal (runChecks s room cuts rows)
-  run-number = runner .told
-
-  module _ (n : ℕ) (some : n ≡ 0 → ⊥) where
-    pub run-exactly : (number (running s room cuts rows .answer) ≡ n) ↔ FirstToApply (runChecks s room cuts rows) n
-    run-exactly = runner .exactly n some
-
-    pub run-leaves : number (running s room cuts rows .answer) ≡ n → running s room cuts rows ≡ outcome (Refused n) cuts rows
-    run-leaves = runner .leaves n some
+      judges _ _ (runChecks s room cuts rows) _ numbered (told-number t (run.blocksIn (run.run t room)) (run.run t room .answer)) refl

@@ -6,17 +6,19 @@ use Prim.Native.Nat.{ℕ}
 use native.Mathlib.Omega.{arith}
 use mathlib.Core.Path.{_≡_, refl}
 use mathlib.Core.List.{List, _++_}
-use Rattle.fields.specs.Judging.{checksOf, refusal}
-use Rattle.fields.proofs.ExactLaws.{FirstToApply, Numbered, NumberedFields, numbered-append, fields-append, fields-each, numbered-checks, Refuses, refuses}
-use Rattle.sheets.specs.ModelSheet.{Source, columnsIn, stepsIn, headerPart, columnPart, marksPart, stepPart, fillPart, fieldsPart, entries, ofSheet, sheetChecks, judgeSheet}
-use Rattle.sheets.specs.LentTables.{readChecks, writeChecks}
+use Rattle.task.specs.Loops.{over}
+use Rattle.fields.specs.Judging.{checksOf}
+use Rattle.fields.specs.Packing.{sheetOf}
+use Rattle.fields.proofs.ExactLaws.{Numbered, NumberedFields, numbered-append, fields-append, fields-each, numbered-checks, Judged, judges}
+use Rattle.sheets.specs.ModelSheet.{Source, columnsIn, stepsIn, columnsOf, stepsOf, modelBytes, headerPart, columnPart, marksPart, stepPart, fillPart, fieldsPart, entries, ofSheet, sheetChecks, judgeSheet}
+use Rattle.sheets.specs.LentTables.{frameOf, costsOf, marksOf, readChecks, writeChecks}
 use Rattle.sheets.proofs.SheetLaws.{H, C, S, F}
 use Rattle.sheets.specs.Holding.{modelOf, noModel}
 use Rattle.unpack.specs.declared.Read.{Read}
 use Rattle.unpack.specs.Unpacking.{answer, unpacked}
-use Rattle.reading.specs.declared.ModelRead.the-variants.{Refused}
+use Rattle.reading.specs.declared.ModelRead.the-variants.{Held, Refused}
 use Rattle.reading.specs.Reading.{Outcome, outcome, number, reading}
-use Rattle.writing.specs.declared.write.SheetWritten.the-variants.{Refused as NotWritten}
+use Rattle.writing.specs.declared.write.SheetWritten.the-variants.{Sheet, Refused as NotWritten}
 use Rattle.writing.specs.Writing.{Outcome as Written, outcome as written, number as writeNumber, writing}
 
 -- every field has its number
@@ -37,9 +39,9 @@ module _ (s : List ℕ) where
   unfolding sheetChecks
   numbered-sheet = numbered-append (checksOf (entries (ofSheet s))) _ (numbered-checks (entries (ofSheet s)) (numbered-fields (ofSheet s))) ((λ z. omega arith), tt)
 
-  by-value : Refuses (λ (r : Read). r .code) (λ n. answer n noModel) (sheetChecks s) (unpacked s)
+  by-value : Judged (λ (r : Read). r .code) (λ n. answer n noModel) (sheetChecks s) (answer 0 (modelOf (ofSheet s))) (unpacked s)
   unfolding unpacked judgeSheet
-  by-value = refuses _ _ (sheetChecks s) (answer 0 (modelOf (ofSheet s))) numbered-sheet refl (λ n. refl)
+  by-value = judges _ _ (sheetChecks s) _ numbered-sheet refl refl
 
   pub code-judged : unpacked s .code ≡ judgeSheet s
   unfolding judgeSheet
@@ -47,48 +49,24 @@ module _ (s : List ℕ) where
 
 -- ---- the reader
 module _ (s frame costs marks : List ℕ) where
-  pub numbered-read : Numbered (readChecks s frame costs marks)
+  numbered-read : Numbered (readChecks s frame costs marks)
   unfolding readChecks sheetChecks
   numbered-read =
       numbered-append (sheetChecks s) _ (numbered-sheet s)
       ((λ z. omega arith), ((λ z. omega arith), ((λ z. omega arith), tt)))
 
-  reader : Refuses (λ (o : Outcome). number (o .answer)) (λ n. outcome (Refused n) frame costs marks) (readChecks s frame costs marks) (reading s frame costs marks)
+  pub reader : Judged (λ (o : Outcome). number (o .answer)) (λ n. outcome (Refused n) frame costs marks) (readChecks s frame costs marks)
+      (outcome (Held (columnsOf s) (stepsOf s)) (over (frameOf (ofSheet s)) frame) (over (costsOf (ofSheet s)) costs) (over (marksOf (ofSheet s)) marks)) (reading s frame costs marks)
   unfolding reading number
-  reader = refuses _ _ (readChecks s frame costs marks) _ numbered-read refl (λ n. refl)
-
-  pub read-number : number (reading s frame costs marks .answer) ≡ refusal (readChecks s frame costs marks)
-  read-number = reader .told
-
-  module _ (n : ℕ) (some : n ≡ 0 → ⊥) where
-    pub read-only : number (reading s frame costs marks .answer) ≡ n → FirstToApply (readChecks s frame costs marks) n
-    read-only = reader .exactly n some .0
-
-    pub read-whenever : FirstToApply (readChecks s frame costs marks) n → number (reading s frame costs marks .answer) ≡ n
-    read-whenever = reader .exactly n some .1
-
-    pub read-leaves : number (reading s frame costs marks .answer) ≡ n → reading s frame costs marks ≡ outcome (Refused n) frame costs marks
-    read-leaves = reader .leaves n some
+  reader = judges _ _ (readChecks s frame costs marks) _ numbered-read refl refl
 
 -- ---- the writer
 module _ (p : Source) (sheet : List ℕ) where
-  pub numbered-write : Numbered (writeChecks p sheet)
+  numbered-write : Numbered (writeChecks p sheet)
   unfolding writeChecks
   numbered-write = numbered-append (checksOf (entries p)) _ (numbered-checks (entries p) (numbered-fields p)) ((λ z. omega arith), tt)
 
-  writer : Refuses (λ (o : Written). writeNumber (o .answer)) (λ n. written (NotWritten n) sheet) (writeChecks p sheet) (writing p sheet)
+  pub writer : Judged (λ (o : Written). writeNumber (o .answer)) (λ n. written (NotWritten n) sheet) (writeChecks p sheet)
+      (written (Sheet (modelBytes (columnsIn p) (stepsIn p))) (over (sheetOf (entries p)) sheet)) (writing p sheet)
   unfolding writing writeNumber
-  writer = refuses _ _ (writeChecks p sheet) _ numbered-write refl (λ n. refl)
-
-  pub write-number : writeNumber (writing p sheet .answer) ≡ refusal (writeChecks p sheet)
-  write-number = writer .told
-
-  module _ (n : ℕ) (some : n ≡ 0 → ⊥) where
-    pub write-only : writeNumber (writing p sheet .answer) ≡ n → FirstToApply (writeChecks p sheet) n
-    write-only = writer .exactly n some .0
-
-    pub write-whenever : FirstToApply (writeChecks p sheet) n → writeNumber (writing p sheet .answer) ≡ n
-    write-whenever = writer .exactly n some .1
-
-    pub write-leaves : writeNumber (writing p sheet .answer) ≡ n → writing p sheet ≡ written (NotWritten n) sheet
-    write-leaves = writer .leaves n some
+  writer = judges _ _ (writeChecks p sheet) _ numbered-write refl refl
