@@ -118,8 +118,9 @@ pub fn run(sheet: &[u8], room: u32, cuts: &mut [u32], rows: &mut [u32]) -> Answe
     }
     let model = read.model;
     let spare = room as usize - 1;
+    // taken before the run, so that no second model lies on the stack beside its tables
+    let cost = model.cost;
     let mut path = [0u8; Model::BLOCKS];
     let ended = refine(model, spare, cuts, &mut path);
-    let cost = model.cost;
     tell(ended, &path, &cost, rows)
 }

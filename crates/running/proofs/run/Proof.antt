@@ -38,9 +38,9 @@ sub-spare c = let g = c .before .before .before .before .before .before .before 
     search (needs, h)
 
 refine-requires : tie.Need-refine-requires
-refine-requires c κs = let g = c .before .before .before .before .before .before .before .before .before .before .before .before .args in
-    let f = fits (g .sheet .now) (g .room) (g .cuts .now) (g .rows .now) (c .before .before .before .before .before .before .before .before .unpack-model .ensures) (c .before .before .before .before .before .before .before .if1 .left) (c .before .before .before .before .judge-room .ensures) (c .before .before .before .if2 .left) in
-    (given-accepted (g .sheet .now) (c .before .before .before .before .before .before .before .before .unpack-model .ensures) (c .before .before .before .before .before .before .before .if1 .left), omega (arith, f .few, f .some), f .cuts-fit, search needs)
+refine-requires c κs = let g = c .before .before .before .before .before .before .before .before .before .before .before .before .before .args in
+    let f = fits (g .sheet .now) (g .room) (g .cuts .now) (g .rows .now) (c .before .before .before .before .before .before .before .before .before .unpack-model .ensures) (c .before .before .before .before .before .before .before .before .if1 .left) (c .before .before .before .before .before .judge-room .ensures) (c .before .before .before .before .if2 .left) in
+    (given-accepted (g .sheet .now) (c .before .before .before .before .before .before .before .before .before .unpack-model .ensures) (c .before .before .before .before .before .before .before .before .if1 .left), omega (arith, f .few, f .some), f .cuts-fit, search needs)
 
 tell-requires : tie.Need-tell-requires
 tell-requires c κs = let g = c .before .before .before .before .before .before .before .before .before .before .before .before .before .before .before .before .before .before .before .args in
@@ -48,7 +48,7 @@ tell-requires c κs = let g = c .before .before .before .before .before .before 
     let z = c .before .before .before .before .before .before .before .before .before .before .before .before .before .before .if1 .left in
     let j = c .before .before .before .before .before .before .before .before .before .before .before .judge-room .ensures in
     let k = c .before .before .before .before .before .before .before .before .before .before .if2 .left in
-    let w = c .before .before .before .before .before .before .refine .ensures .0 in
+    let w = c .before .before .before .before .before .refine .ensures .0 in
     (known (g .sheet .now) (g .room) (g .cuts .now) (g .rows .now) e z j k w, room-for-steps (g .sheet .now) (g .room) (g .cuts .now) (g .rows .now) e z j k w)
 
 same-length-3 : tie.Need-same-length-3
@@ -63,7 +63,7 @@ returns-3 c = let g = c .before .before .before .before .before .before .before 
     let z = c .before .before .before .before .before .before .before .before .before .before .before .before .before .before .before .before .before .if1 .left in
     let j = c .before .before .before .before .before .before .before .before .before .before .before .before .before .before .judge-room .ensures in
     let k = c .before .before .before .before .before .before .before .before .before .before .before .before .before .if2 .left in
-    let w = c .before .before .before .before .before .before .before .before .before .refine .ensures .0 in
+    let w = c .before .before .before .before .before .before .before .before .refine .ensures .0 in
     ran (g .sheet .now) (g .room) (g .cuts .now) (g .rows .now) e z j k w (c .before .before .tell .ensures _ (path-costs (g .sheet .now) (g .room) (g .cuts .now) (g .rows .now) e z j k w))
 
 pub run-spec : {M : Type 1} → statement M
