@@ -1,9 +1,9 @@
 // A pass over the distances: times of the library beside the same algorithm in plain Rust, in one run, and a
 // comparison of 200 random graphs with a relaxation on need and effect marks.
 //
-// The library exports no pass. To measure, mark `fill_distances` of crates/distances in a copy of the repository
-// `#[no_mangle] pub extern "C"`, build it with `rt staticlib distances`, and then here
-//     rustc -O --out-dir target/bench bench/distances.rs -L COPY/target/staticlib -ldistances && target/bench/distances
+// The library exports no pass. To measure, mark `fill_distances` of crates/settling in a copy of the repository
+// `#[no_mangle] pub extern "C"`, build it with `rt staticlib settling`, and then here
+//     rustc -O --out-dir target/bench bench/distances.rs -L COPY/target/staticlib -lsettling && target/bench/distances
 mod clock;
 mod models;
 mod plain;

@@ -22,8 +22,8 @@ use Rattle.blocks.specs.Flat.{cutsIn, followed}
 use Rattle.blocks.proofs.CutLaws.{blocks-length}
 use Rattle.blocks.proofs.FollowLaws.{cuts-length, follow-block}
 use Rattle.distances.specs.Distances.{Distance, farOf, distances, stateFar, estimate}
-use Rattle.distances.specs.Coded.{codedAt, codedOver}
-use Rattle.distances.proofs.JoinLaws.{cost-said}
+use Rattle.settling.specs.Coded.{codedAt, codedOver}
+use Rattle.settling.proofs.JoinLaws.{cost-said}
 use Rattle.asking.specs.Question.{placeIn, stateIn, wideState, costFound, statesIn, badStates, estimateAt, estimatesOf}
 use Rattle.asking.proofs.StateLaws.{followed-most, state-room}
 

@@ -18,8 +18,8 @@ use Rattle.blocks.specs.Blocks.{accepted, blocksOf}
 use Rattle.blocks.specs.Flat.{blocksIn, cutsIn}
 use Rattle.blocks.proofs.PartLaws.{fits}
 use Rattle.distances.specs.Distances.{distances}
-use Rattle.distances.specs.Coded.{codedAt, codedOver}
-use Rattle.distances.proofs.JoinLaws.{coded-says}
+use Rattle.settling.specs.Coded.{codedAt, codedOver}
+use Rattle.settling.proofs.JoinLaws.{coded-says}
 use Rattle.cut_sheets.specs.CutPart.{cutNamed, cutsNamed, cutOn, countOf, judgeCuts, ofCutPart, cutPartWith}
 use Rattle.cut_sheets.specs.CutSheet.{cutValues}
 use Rattle.cut_sheets.specs.Judged.{Made}

@@ -3,7 +3,3 @@ pub mod PigeonLaws
 pub mod LeastLaws
 pub mod TableLaws
 pub mod EstimateLaws
-pub mod DijkstraLaws
-pub mod PickLaws
-pub mod LowerLaws
-pub mod JoinLaws

@@ -1,4 +1,1 @@
 pub mod Distances
-pub mod Ways
-pub mod Turns
-pub mod Coded

@@ -17,9 +17,9 @@ use Rattle.blocks.specs.Flat.{blocksIn, cutsIn}
 use Rattle.blocks.proofs.CutLaws.{BlockIs, accepted-parts, block-of, blocks-length}
 use Rattle.blocks.proofs.FollowLaws.{cuts-length, cut-columns}
 use Rattle.distances.specs.Distances.{Distance, farOf, distances}
-use Rattle.distances.specs.Ways.{noWay}
-use Rattle.distances.specs.Coded.{decoded, codedAt, codedOver}
-use Rattle.distances.proofs.JoinLaws.{far-small, coded-says, decoded-low, decoded-high}
+use Rattle.settling.specs.Ways.{noWay}
+use Rattle.settling.specs.Coded.{decoded, codedAt, codedOver}
+use Rattle.settling.proofs.JoinLaws.{far-small, coded-says, decoded-low, decoded-high}
 use Rattle.run.specs.Hops.{Holds}
 use Rattle.run.specs.Run.{Look, hopeless, lookFrom, look}
 use Rattle.walk.specs.declared.Found.{Found}

@@ -15,7 +15,7 @@ use Rattle.blocks.specs.Blocks.{whole, cutsOk, cutAll, accepted, blocksOf}
 use Rattle.blocks.specs.Masks.{needSets, landSets, goalSets}
 use Rattle.blocks.proofs.FlatLaws.{first-stands as blocks-stand}
 use Rattle.blocks.proofs.FollowLaws.{cuts-none}
-use Rattle.distances.proofs.JoinLaws.{model-tables}
+use Rattle.settling.proofs.JoinLaws.{model-tables}
 use Rattle.refining.specs.Refining.{Given, Made}
 
 -- the front of a list, place by place

@@ -24,9 +24,9 @@ use Rattle.blocks.proofs.MaskLaws.{leads-by}
 use Rattle.blocks.proofs.PartLaws.{same-or-not}
 use Rattle.distances.specs.Distances.{Distance, Hop, farOf, plus, leadsTo, distances}
 use Rattle.arcs.specs.Arcs.{fitsIn}
-use Rattle.distances.specs.Ways.{noWay}
-use Rattle.distances.specs.Coded.{coded, codedAt, Tables}
-use Rattle.distances.proofs.JoinLaws.{far-small}
+use Rattle.settling.specs.Ways.{noWay}
+use Rattle.settling.specs.Coded.{coded, codedAt, Tables}
+use Rattle.settling.proofs.JoinLaws.{far-small}
 use Rattle.run.specs.declared.Next.{Next}
 use Rattle.run.specs.Run.{keeps, nextHop}
 use Rattle.run.specs.Hops.{keepsIn, fitsBy, mayTake, hop, nextIn, nextOf, nextBy, hopOf, Holds, NextIs}

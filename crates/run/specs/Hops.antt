@@ -13,7 +13,7 @@ use Rattle.blocks.specs.Blocks.{Blocks}
 use Rattle.blocks.specs.Masks.{leadsBy}
 use Rattle.distances.specs.Distances.{Distance, Hop, Table, farOf, distances}
 use Rattle.arcs.specs.Arcs.{fitsIn}
-use Rattle.distances.specs.Coded.{codedAt}
+use Rattle.settling.specs.Coded.{codedAt}
 use Rattle.run.specs.Run.{nextHop}
 use Rattle.run.specs.declared.Next.{Next}
 use Rattle.run.specs.declared.Next.the-variants.{To, Nothing}

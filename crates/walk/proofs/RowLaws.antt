@@ -13,7 +13,7 @@ use Rattle.task.specs.Loops.{first, tab, over}
 use Rattle.task.specs.Task.{column}
 use Rattle.blocks.specs.Blocks.{common, isEmpty}
 use Rattle.blocks.proofs.FlatLaws.{over-set}
-use Rattle.distances.proofs.JoinLaws.{over-past}
+use Rattle.settling.proofs.JoinLaws.{over-past}
 use Rattle.run.proofs.HopLaws.{first-here}
 use Rattle.walk.specs.Walking.{landed, isOff, offAt, lowestOff}
 

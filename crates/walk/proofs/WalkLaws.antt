@@ -23,8 +23,8 @@ use Rattle.blocks.proofs.PartLaws.{Parts}
 use Rattle.blocks.proofs.FlatLaws.{blocks-length}
 use Rattle.blocks.proofs.CutLaws.{accepted-parts}
 use Rattle.distances.specs.Distances.{Distance, Hop, Table, plus, far, zeroFar, leadsTo, isPath, farOf, distances}
-use Rattle.distances.specs.Coded.{Tables, coded, codedAt}
-use Rattle.distances.proofs.JoinLaws.{far-small}
+use Rattle.settling.specs.Coded.{Tables, coded, codedAt}
+use Rattle.settling.proofs.JoinLaws.{far-small}
 use Rattle.run.specs.Run.{Walk, arrived, flawed, Look, planned, flaw, keeps, nextHop, trace, walk, cutFor, lookWalk}
 use Rattle.run.specs.Hops.{Holds}
 use Rattle.run.proofs.TraceLaws.{keeps-some, next-lowest, trace-next, trace-none, trace-path}

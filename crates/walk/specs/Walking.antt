@@ -17,7 +17,7 @@ use Rattle.blocks.specs.Blocks.{PositionSet, only, common, isEmpty, blockAt, in
 use Rattle.blocks.specs.Flat.{past, rowOf, blocksIn}
 use Rattle.blocks.specs.Masks.{lies}
 use Rattle.distances.specs.Distances.{Distance, Hop, farOf, distances}
-use Rattle.distances.specs.Coded.{Tables}
+use Rattle.settling.specs.Coded.{Tables}
 use Rattle.run.specs.Run.{Look, planned, flaw, trace, walk, lookWalk}
 use Rattle.run.specs.Hops.{fitsBy, nextBy, Holds}
 use Rattle.walk.specs.declared.Found.{Found}

@@ -3,7 +3,7 @@ use lib.ListN.{length}
 use native.Mathlib.Omega.{arith}
 use Rattle.task.specs.Tables.{taskOf}
 use Rattle.task.proofs.TableLaws.{columns-of, steps-of}
-use Rattle.distances.proofs.JoinLaws.{model-tables}
+use Rattle.settling.proofs.JoinLaws.{model-tables}
 use borrow.Author.Needs.{needs}
 use Rattle.asking.proofs.measure.Statement.{statement}
 use Rattle.asking.proofs.measure.Tie as tie
@@ -12,7 +12,7 @@ use Rattle.asking.proofs.measure.Lts as lts
 use Rattle.blocks.proofs.fill_goals.Reads as fill-goals-reads
 use Rattle.blocks.proofs.fill_lands.Reads as fill-lands-reads
 use Rattle.blocks.proofs.fill_needs.Reads as fill-needs-reads
-use Rattle.distances.proofs.fill_distances.Reads as fill-distances-reads
+use Rattle.settling.proofs.fill_distances.Reads as fill-distances-reads
 
 fill-needs-requires : tie.Need-fill-needs-requires
 fill-needs-requires c κs = search needs

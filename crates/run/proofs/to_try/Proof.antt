@@ -9,7 +9,7 @@ use Rattle.run.proofs.to_try.Tie as tie
 use Rattle.run.proofs.to_try.Reads as reads
 use Rattle.run.proofs.to_try.Lts as lts
 use Rattle.arcs.proofs.fits_in.Reads as fits-in-reads
-use Rattle.distances.proofs.weigh.Reads as weigh-reads
+use Rattle.settling.proofs.weigh.Reads as weigh-reads
 
 -- src/lib.rt:60:8
 mul-if1 : tie.Need-mul-if1

@@ -1,0 +1,4 @@
+pub mod DijkstraLaws
+pub mod PickLaws
+pub mod LowerLaws
+pub mod JoinLaws

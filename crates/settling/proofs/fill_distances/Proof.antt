@@ -1,0 +1,51 @@
+use mathlib.Core.Path.{refl, _∙_}
+use Rattle.settling.proofs.DijkstraLaws.{all-zero}
+use Rattle.arcs.proofs.WordLaws.{met-zero}
+use Rattle.settling.proofs.JoinLaws.{all-coded}
+use borrow.Author.Needs.{needs}
+use Rattle.settling.proofs.fill_distances.Statement.{statement}
+use Rattle.settling.proofs.fill_distances.Tie as tie
+use Rattle.settling.proofs.fill_distances.Reads as reads
+use Rattle.settling.proofs.fill_distances.Lts as lts
+use Rattle.arcs.proofs.fill_able.Reads as fill-able-reads
+use Rattle.settling.proofs.settle.Reads as settle-reads
+use Rattle.settling.proofs.start.Reads as start-reads
+
+-- src/lib.rt:309:26
+sub-used : tie.Need-sub-used
+sub-used c = search needs
+
+-- src/lib.rt:309:17
+add-used : tie.Need-add-used
+add-used c = search needs
+
+-- src/lib.rt:310:5
+fill-able-requires : tie.Need-fill-able-requires
+fill-able-requires c κs = search needs
+
+-- src/lib.rt:311:5
+start-requires : tie.Need-start-requires
+start-requires c κs = search needs
+
+-- src/lib.rt:312:5
+settle-requires : tie.Need-settle-requires
+settle-requires c κs =
+    let q = c .before .before .before .before .before .before .before .before .before .before .before .before .pre in
+    let st = c .before .before .before .before .before .before .before .start .ensures in
+    ((q .0, q .3, q .1, refl, q .2, st .1, refl, refl, refl, refl, refl), (c .before .before .before .before .before .before .before .before .before .fill-able .ensures, (met-zero _ _ _ _ _ (all-zero 16) (all-zero 128), (record { each = st .0 .each; rest = λ a h. refl }, all-zero 256))))
+
+-- src/lib.rt:289:1
+returns : tie.Need-returns
+returns c =
+    let g = c .before .before .before .before .before .before .before .before .before .before .before .before .before .args in
+    let q = c .before .before .before .before .before .before .before .before .before .before .before .before .before .pre in
+    let st = c .before .before .before .before .before .before .before .before .start .ensures .0 in
+    let se = c .settle .ensures .0 in (
+      (λ t tables. all-coded t (g .columns) (g .count) (g .steps) (g .needs .now) (g .lands .now) (g .goals .now) (g .costs .now) (g .sets .now) tables (g .dist .now) _ (q .4) (c .settle .ensures .1) (q .3) (record { each = se .each; small = se .small; rest = λ a h. se .rest a h ∙ st .rest a h })),
+      c .settle .ensures .1,
+    )
+
+pub fill-distances-spec : {M : Type 1} → statement M
+fill-distances-spec =
+    tie.close
+    (tie.spec sub-used add-used fill-able-requires start-requires settle-requires returns)

@@ -1,0 +1,30 @@
+use mathlib.Core.Path.{sym, _∙_}
+use mathlib.Core.List.{[]}
+use borrow.Author.Tests.{not-true, not-false}
+use Rattle.settling.proofs.LowerLaws.{no-landing, lands-there}
+use borrow.Author.Needs.{needs}
+use Rattle.settling.proofs.lower.Statement.{statement}
+use Rattle.settling.proofs.lower.Tie as tie
+use Rattle.settling.proofs.lower.Reads as reads
+use Rattle.settling.proofs.lower.Lts as lts
+use Rattle.arcs.proofs.fits_in.Reads as fits-in-reads
+use Rattle.settling.proofs.sweep.Reads as sweep-reads
+
+-- src/lib.rt:145:9
+fits-in-requires : tie.Need-fits-in-requires
+fits-in-requires c κs = search needs
+
+-- src/lib.rt:146:9
+returns : tie.Need-returns
+returns c = (no-landing _ _ _ _ _ _ _ _ _ _ _ _ _ [] (sym (c .before .fits-in .ensures) ∙ not-true _ (c .if1 .taken)), search needs)
+
+-- src/lib.rt:148:5
+sweep-requires : tie.Need-sweep-requires
+sweep-requires c κs = search needs
+
+-- src/lib.rt:127:1
+returns-2 : tie.Need-returns-2
+returns-2 c = (lands-there _ _ _ _ _ _ _ _ _ _ _ _ _ _ (sym (c .before .before .before .fits-in .ensures) ∙ not-false _ (c .before .before .if1 .left)) (c .sweep .ensures .0), c .sweep .ensures .1)
+
+pub lower-spec : {M : Type 1} → statement M
+lower-spec = tie.close (tie.spec fits-in-requires returns sweep-requires returns-2)

@@ -1,0 +1,42 @@
+use Rattle.settling.proofs.LowerLaws.{open-made}
+use borrow.Author.Needs.{needs}
+use Rattle.settling.proofs.relax.Statement.{statement}
+use Rattle.settling.proofs.relax.Tie as tie
+use Rattle.settling.proofs.relax.Reads as reads
+use Rattle.settling.proofs.relax.Lts as lts
+use Rattle.arcs.proofs.fill_meets.Reads as fill-meets-reads
+use Rattle.arcs.proofs.fill_narrow.Reads as fill-narrow-reads
+use Rattle.arcs.proofs.fill_open.Reads as fill-open-reads
+use Rattle.settling.proofs.tries.Reads as tries-reads
+
+-- src/lib.rt:217:5
+fill-open-requires : tie.Need-fill-open-requires
+fill-open-requires c κs = search needs
+
+-- src/lib.rt:218:5
+fill-meets-requires : tie.Need-fill-meets-requires
+fill-meets-requires c κs = search needs
+
+-- src/lib.rt:219:9
+fill-narrow-requires : tie.Need-fill-narrow-requires
+fill-narrow-requires c κs = search needs
+
+-- src/lib.rt:220:5
+tries-requires : tie.Need-tries-requires
+tries-requires c κs =
+    let p = c .before .before .before .before .before .before .before .before .before .before .before .before .before .before .pre in
+    let q = p .0 in (
+      (q .0, q .1, q .2, q .3, q .4, q .5, q .6, q .7),
+      (p .1 .0, (c .before .before .before .before .before .before .before .before .fill-meets .ensures .1 .0, (open-made _ _ _ _ _ _ (c .before .before .before .before .before .before .before .before .before .before .before .fill-open .ensures .0) (p .1 .1 .1), c .before .before .before .before .fill-narrow .ensures .0))),
+    )
+
+-- src/lib.rt:196:1
+returns : tie.Need-returns
+returns c =
+    let m = c .before .before .before .before .before .before .before .before .before .fill-meets .ensures in
+    (c .tries .ensures .0, (m .0, (c .tries .ensures .1, m .1 .1 .0, m .1 .1 .1, c .before .before .before .before .before .before .before .before .before .before .before .before .fill-open .ensures .1, c .before .before .before .before .before .fill-narrow .ensures .1)))
+
+pub relax-spec : {M : Type 1} → statement M
+relax-spec =
+    tie.close
+    (tie.spec fill-open-requires fill-meets-requires fill-narrow-requires tries-requires returns)

@@ -1,0 +1,100 @@
+use mathlib.Core.Path.{_≡_, refl, _∙_}
+use Prim.Native.Nat.{ℕ, _≤_}
+use native.Mathlib.Omega.{arith}
+use lib.ListN.{length, getD, length-set}
+use Rattle.arcs.specs.Arcs.{Arc, GoalIn, costIn}
+use Rattle.arcs.specs.Words.{heldIn, Met}
+use Rattle.settling.proofs.DijkstraLaws.{Inv, zeros, begin, turn, at-end, small-end, zeros-set, settled-nearest}
+use borrow.Author.Needs.{needs}
+use Rattle.settling.proofs.settle.Statement.{statement}
+use Rattle.settling.proofs.settle.Tie as tie
+use Rattle.settling.proofs.settle.Reads as reads
+use Rattle.settling.proofs.settle.Lts as lts
+use Rattle.settling.proofs.nearest.Reads as nearest-reads
+use Rattle.settling.proofs.relax.Reads as relax-reads
+
+abbrev Inv-loop : tie.InvT-loop
+Inv-loop columns count steps used needs lands goals costs sets able held₀ meets₀ left₀ narrow₀ done₀ dist₀ held meets left narrow done dist =
+    (length held ≡ 16) × (length meets ≡ 128) × (length left ≡ 8) × (length narrow ≡ 16) × (length done ≡ 256) × (length dist ≡ 256) × Met columns used sets (heldIn held) meets
+    × ((a : ℕ) → count ≤ a → getD dist a 0 ≡ getD dist₀ a 0)
+    × Inv count (Arc columns count steps needs lands sets) (GoalIn columns goals sets) (costIn costs) dist done
+
+abbrev μ-loop : tie.MeasureT-loop
+μ-loop columns count steps used needs lands goals costs sets able held₀ meets₀ left₀ narrow₀ done₀ dist₀ held meets left narrow done dist = zeros done
+
+-- src/lib.rt:261:5
+loop-holds : tie.Need-loop-holds Inv-loop μ-loop
+loop-holds c =
+    let p = c .before .pre in
+    (p .0 .6, p .0 .7, p .0 .8, p .0 .9, p .0 .10, p .0 .5, p .1 .1 .0, (λ a h. refl), begin _ _ _ _ _ _ _ (p .1 .1 .1 .1) (omega (arith, p .0 .10)) (p .1 .1 .1 .0))
+
+-- src/lib.rt:262:13
+nearest-requires : tie.Need-nearest-requires Inv-loop μ-loop
+nearest-requires c κs = search needs
+
+-- src/lib.rt:266:9
+element-write-done : tie.Need-element-write-done Inv-loop μ-loop
+element-write-done c = search needs
+
+-- src/lib.rt:267:9
+relax-requires : tie.Need-relax-requires Inv-loop μ-loop
+relax-requires c κs =
+    let p = c .before .before .before .before .before .before .before .before .before .before .before .before .pre in
+    let q = p .0 in
+    let i = c .before .before .before .before .before .before .before .before .before .before .loop .inv in
+    let near = c .before .before .before .before .before .before .before .nearest .ensures .found (c .before .before .before .before .before .before .if1 .left) in
+    ((q .0, q .1, q .2, q .3, q .4, c .before .before .before .before .before .before .if1 .left, i .5, near .known, i .0, i .1, i .2, i .3), (p .1 .0, (i .6, settled-nearest _ _ _ _ _ _ _ (i .8) near)))
+
+-- src/lib.rt:261:5
+loop-less : tie.Need-loop-less Inv-loop μ-loop
+loop-less c =
+    let near = c .before .before .before .before .before .before .before .before .nearest .ensures .found (c .before .before .before .before .before .before .before .if1 .left) in
+    let l = c .before .before .before .before .before .before .before .before .before .before .before .loop in
+    let z = zeros-set (l .done) (c .before .before .before .before .before .before .before .before .nearest .result) (omega (arith, c .before .before .before .before .before .before .before .before .before .before .before .before .before .pre .0 .1, c .before .before .before .before .before .before .before .if1 .left, l .inv .4)) (near .open-yet) in
+    omega (arith, z)
+
+-- src/lib.rt:261:5
+loop-again : tie.Need-loop-again Inv-loop μ-loop
+loop-again c =
+    let i = c .before .before .before .before .before .before .before .before .before .before .before .loop .inv in
+    let near = c .before .before .before .before .before .before .before .before .nearest .ensures .found (c .before .before .before .before .before .before .before .if1 .left) in
+    let r = c .relax .ensures in
+    let cheap = c .before .before .before .before .before .before .before .before .before .before .before .before .shared-slice-known .given in (
+      r .1 .1 .1,
+      r .1 .1 .2,
+      r .1 .1 .3,
+      r .1 .1 .4,
+      simp length-set (i .4),
+      r .1 .1 .0,
+      r .1 .0,
+      (λ a h. r .0 .rest a h ∙ i .7 a h),
+      turn _ _ _ _ (λ a s b l. l .out) (λ a s b l. l .into) (λ s. omega (arith, cheap s)) _ _ _ _ (i .8) near (r .0) (omega (arith, c .before .before .before .before .before .before .before .before .before .before .before .before .before .pre .0 .1, c .before .before .before .before .before .before .before .if1 .left, i .4)),
+    )
+
+-- src/lib.rt:240:1
+returns : tie.Need-returns Inv-loop μ-loop
+returns c =
+    let i = c .before .before .before .before .loop .inv in
+    let cheap = c .before .before .before .before .before .shared-slice-known .given in
+    let none = c .before .nearest .ensures .none (omega (arith, c .before .nearest .ensures .within, c .if1 .taken)) in (
+      record {
+        each = at-end _ _ _ _ (λ a s b l. l .out) (λ a s b l. l .into) (λ s. omega (arith, cheap s)) _ _ (i .8) none;
+        small = small-end _ _ _ _ (λ a s b l. l .out) (λ a s b l. l .into) (λ s. omega (arith, cheap s)) _ _ (i .8) none;
+        rest = i .7;
+      },
+      i .5,
+    )
+
+pub settle-spec : {M : Type 1} → statement M
+settle-spec =
+    tie.close
+    (tie.spec
+    Inv-loop
+    μ-loop
+    loop-holds
+    nearest-requires
+    element-write-done
+    relax-requires
+    loop-less
+    loop-again
+    returns)
