@@ -20,8 +20,8 @@ use Rattle.distances.specs.Distances.{Distance, farOf, distances}
 use Rattle.settling.specs.Ways.{noWay}
 use Rattle.settling.specs.Coded.{decoded, codedAt, codedOver}
 use Rattle.settling.proofs.JoinLaws.{far-small, coded-says, decoded-low, decoded-high}
-use Rattle.run.specs.Hops.{Holds}
 use Rattle.run.specs.Run.{Look, hopeless, lookFrom, look}
+use Rattle.trace.specs.Hops.{Holds}
 use Rattle.walk.specs.declared.Found.{Found}
 use Rattle.walk.specs.declared.Found.the-variants as walk
 use Rattle.walk.specs.Walking.{Stands, Begins, seen, Known, walked}

@@ -2,4 +2,3 @@ pub mod TraceLaws
 pub mod FlawLaws
 pub mod RunLaws
 pub mod LengthLaws
-pub mod HopLaws

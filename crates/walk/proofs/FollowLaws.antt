@@ -16,8 +16,8 @@ use Rattle.task.proofs.LoopLaws.{true-or-false}
 use Rattle.blocks.specs.declared.Cut.{Cut}
 use Rattle.blocks.proofs.PartLaws.{same-or-not}
 use Rattle.distances.specs.Distances.{Hop}
-use Rattle.run.specs.Hops.{fitsBy, nextBy}
-use Rattle.run.proofs.HopLaws.{next-below}
+use Rattle.trace.specs.Hops.{fitsBy, nextBy}
+use Rattle.trace.proofs.HopLaws.{next-below}
 use Rattle.walk.specs.declared.Found.{Found}
 use Rattle.walk.specs.declared.Found.the-variants.{Plan, Flaw}
 use Rattle.walk.specs.declared.Turn.{Turn}

@@ -14,7 +14,7 @@ use Rattle.task.specs.Task.{column}
 use Rattle.blocks.specs.Blocks.{common, isEmpty}
 use Rattle.blocks.proofs.FlatLaws.{over-set}
 use Rattle.settling.proofs.JoinLaws.{over-past}
-use Rattle.run.proofs.HopLaws.{first-here}
+use Rattle.trace.proofs.HopLaws.{first-here}
 use Rattle.walk.specs.Walking.{landed, isOff, offAt, lowestOff}
 
 -- the search for the lowest column, turn by turn

@@ -27,7 +27,7 @@ use Rattle.blocks.proofs.FlatLaws.{blocks-length, block-at, set-at}
 use Rattle.blocks.proofs.MaskLaws.{none-empty, only-some, lies-goal}
 use Rattle.run.specs.Run.{Wanted, wantedAt, allowed, backAt, goalWanted, needWanted, backWanted, cutColumn, cutFor}
 use Rattle.run.proofs.FlawLaws.{Flaw, cut-column}
-use Rattle.run.proofs.HopLaws.{first-ext}
+use Rattle.trace.proofs.HopLaws.{first-ext}
 use Rattle.walk.specs.Walking.{Stands, landed, backSet, isOff, takesBy, goalAtEnd, landedAt, landsBy, takenBy, needRow, backRow, offAt, lowestOff, cutBy}
 use Rattle.walk.specs.Walking as walking
 

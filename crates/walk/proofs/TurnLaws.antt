@@ -6,10 +6,10 @@ use mathlib.Core.Option.{some}
 use Prim.Native.Nat.{ℕ, _<_}
 use Rattle.task.specs.declared.Step.{Step}
 use Rattle.task.specs.declared.Block.{Block}
-use Rattle.run.specs.declared.Next.{Next}
-use Rattle.run.specs.declared.Next.the-variants.{To, Nothing}
-use Rattle.run.specs.Hops.{fitsBy, nextBy, hopOf}
-use Rattle.run.proofs.HopLaws.{next-below}
+use Rattle.trace.specs.declared.Next.{Next}
+use Rattle.trace.specs.declared.Next.the-variants.{To, Nothing}
+use Rattle.trace.specs.Hops.{fitsBy, nextBy, hopOf}
+use Rattle.trace.proofs.HopLaws.{next-below}
 use Rattle.walk.specs.declared.Turn.the-variants.{Went, Ended, Flawed}
 use Rattle.walk.specs.Walking.{takesBy, landsBy, needRow, backRow, cutBy, turnOn, turnBy}
 

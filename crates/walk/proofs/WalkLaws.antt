@@ -26,10 +26,10 @@ use Rattle.distances.specs.Distances.{Distance, Hop, Table, plus, far, zeroFar,
 use Rattle.settling.specs.Coded.{Tables, coded, codedAt}
 use Rattle.settling.proofs.JoinLaws.{far-small}
 use Rattle.run.specs.Run.{Walk, arrived, flawed, Look, planned, flaw, keeps, nextHop, trace, walk, cutFor, lookWalk}
-use Rattle.run.specs.Hops.{Holds}
 use Rattle.run.proofs.TraceLaws.{keeps-some, next-lowest, trace-next, trace-none, trace-path}
 use Rattle.run.proofs.FlawLaws.{goal-flaw, need-flaw, back-flaw}
-use Rattle.run.proofs.HopLaws.{next-is}
+use Rattle.trace.specs.Hops.{Holds}
+use Rattle.trace.proofs.HopLaws.{next-is}
 use Rattle.walk.specs.declared.Found.{Found}
 use Rattle.walk.specs.declared.Found.the-variants.{Plan}
 use Rattle.walk.specs.declared.Turn.{Turn}

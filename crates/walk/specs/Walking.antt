@@ -19,7 +19,7 @@ use Rattle.blocks.specs.Masks.{lies}
 use Rattle.distances.specs.Distances.{Distance, Hop, farOf, distances}
 use Rattle.settling.specs.Coded.{Tables}
 use Rattle.run.specs.Run.{Look, planned, flaw, trace, walk, lookWalk}
-use Rattle.run.specs.Hops.{fitsBy, nextBy, Holds}
+use Rattle.trace.specs.Hops.{fitsBy, nextBy, Holds}
 use Rattle.walk.specs.declared.Found.{Found}
 use Rattle.walk.specs.declared.Found.the-variants.{Plan, Flaw}
 use Rattle.walk.specs.declared.Turn.{Turn}

@@ -11,11 +11,11 @@ ghost use Rattle.distances.specs.Distances.{Distance};
 ghost use Rattle.walk.specs.Walking.{landed, backSet, isOff, takesBy, goalAtEnd, landsBy, takenBy, needRow, backRow, lowestOff, cutBy, endBy, turnBy, standsAfter, followBy, outcome, seen, Known, Begins, walked};
 use blocks::Cut;
 use blocks::lies;
-use run::Next;
 use task::Block;
 use task::Column;
 use task::Model;
 use task::Step;
+use trace::Next;
 
 // What a walk found: a plan of so many steps of the path, or the cut of a flaw.
 pub enum Found {
@@ -271,7 +271,7 @@ fn hop(
     requires { ⌜ (columns ≤ limits .columns) × (steps ≤ limits .steps) × (steps ≤ length (now costs)) × (count ≤ limits .blocks) × (a .0 < count) × (length (now here) ≡ limits .columns) ⌝ }
     ensures { λ r. ⌜ r ≡ turnBy columns steps count (now (needs .entry)) (now (lands .entry)) (now (costs .entry)) (now (sets .entry)) (now (dist .entry)) a (now (here .entry)) ⌝ ∗ ⌜ now (here .exit) ≡ standsAfter columns (now (lands .entry)) (now (here .entry)) r ⌝ ∗ ⌜ length (now (here .exit)) ≡ limits .columns ⌝ }
 {
-    let next = run::next_hop(columns, steps, count, a, needs, lands, costs, sets, dist);
+    let next = trace::next_hop(columns, steps, count, a, needs, lands, costs, sets, dist);
     let Next::To(s, b) = next else {
         return Turn::Ended;
     };

@@ -9,7 +9,7 @@ use Rattle.walk.proofs.hop.Statement.{statement}
 use Rattle.walk.proofs.hop.Tie as tie
 use Rattle.walk.proofs.hop.Reads as reads
 use Rattle.walk.proofs.hop.Lts as lts
-use Rattle.run.proofs.next_hop.Reads as next-hop-reads
+use Rattle.trace.proofs.next_hop.Reads as next-hop-reads
 use Rattle.walk.proofs.back_cut.Reads as back-cut-reads
 use Rattle.walk.proofs.can_take.Reads as can-take-reads
 use Rattle.walk.proofs.lands_in.Reads as lands-in-reads

@@ -1,6 +1,6 @@
 use Rattle.walk.proofs.RowLaws.{off-none, lowest-here, lowest-none}
 use Rattle.walk.specs.Walking.{offAt}
-use Rattle.run.proofs.HopLaws.{first-nothing, first-more}
+use Rattle.trace.proofs.HopLaws.{first-nothing, first-more}
 use Rattle.task.specs.Loops.{first}
 use native.Mathlib.Omega.{arith}
 use Prim.Native.Nat.{_-_, _≤_}

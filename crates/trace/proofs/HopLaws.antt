@@ -27,9 +27,9 @@ use Rattle.arcs.specs.Arcs.{fitsIn}
 use Rattle.settling.specs.Ways.{noWay}
 use Rattle.settling.specs.Coded.{coded, codedAt, Tables}
 use Rattle.settling.proofs.JoinLaws.{far-small}
-use Rattle.run.specs.declared.Next.{Next}
 use Rattle.run.specs.Run.{keeps, nextHop}
-use Rattle.run.specs.Hops.{keepsIn, fitsBy, mayTake, hop, nextIn, nextOf, nextBy, hopOf, Holds, NextIs}
+use Rattle.trace.specs.declared.Next.{Next}
+use Rattle.trace.specs.Hops.{keepsIn, fitsBy, mayTake, hop, nextIn, nextOf, nextBy, hopOf, Holds, NextIs}
 
 -- ---- what is found first, turn by turn
 module _ {A : Type 0} (f : ℕ → Option A) where

@@ -14,9 +14,9 @@ use Rattle.blocks.specs.Masks.{leadsBy}
 use Rattle.distances.specs.Distances.{Distance, Hop, Table, farOf, distances}
 use Rattle.arcs.specs.Arcs.{fitsIn}
 use Rattle.settling.specs.Coded.{codedAt}
 use Rattle.run.specs.Run.{nextHop}
-use Rattle.run.specs.declared.Next.{Next}
-use Rattle.run.specs.declared.Next.the-variants.{To, Nothing}
+use Rattle.trace.specs.declared.Next.{Next}
+use Rattle.trace.specs.declared.Next.the-variants.{To, Nothing}
 
 -- cost and step count, plus this step, give the block's own
 unfoldable pub keepsIn : ℕ → ℕ → ℕ → Bool
