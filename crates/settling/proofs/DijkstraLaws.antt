@@ -100,10 +100,6 @@ module _ (n : ℕ) (arc : ℕ → ℕ → ℕ → Type 0) (goal : ℕ → Type 0
     turn-top : (a : ℕ) → a < n → getD D′ a 0 ≤ noWay
     turn-top a h = let k = down a h in let l = inv .top a h in omega arith
 
-    -- how the room for steps changes
-    room-same : zeros (set F b 1) + getD (set F b 1) b 0 ≡ zeros F
-    room-same = let k = flag-same in let l = count in omega arith
-
     keeps : (a : ℕ) → Reach arc goal cost a (getD D a 0) (zeros F + getD F a 0) → getD D′ a 0 ≡ getD D a 0
         → Reach arc goal cost a (getD D′ a 0) (zeros (set F b 1) + getD (set F b 1) a 0)
     keeps a w e =

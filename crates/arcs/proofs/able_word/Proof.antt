@@ -18,44 +18,34 @@ Inv-loop columns s w needs sets rs v₀ j₀ v j = (j ≤ columns) × (v ≡ wor
 abbrev μ-loop : tie.MeasureT-loop
 μ-loop columns s w needs sets rs v₀ j₀ v j = columns - j
 
--- src/lib.rt:95:14
 mul-rs : tie.Need-mul-rs Inv-loop μ-loop
 mul-rs c = search needs
 
--- src/lib.rt:98:5
 loop-holds : tie.Need-loop-holds Inv-loop μ-loop
 loop-holds c = (omega arith, fits-none _ _ _ _)
 
--- src/lib.rt:99:38
 add-with-need : tie.Need-add-with-need Inv-loop μ-loop
 add-with-need c = search needs
 
--- src/lib.rt:99:32
 mul-with-need : tie.Need-mul-with-need Inv-loop μ-loop
 mul-with-need c = search needs
 
--- src/lib.rt:99:32
 element-copy-out-with-need : tie.Need-element-copy-out-with-need Inv-loop μ-loop
 element-copy-out-with-need c = search needs
 
--- src/lib.rt:99:9
 with-need-requires : tie.Need-with-need-requires Inv-loop μ-loop
 with-need-requires c κs = search needs
 
--- src/lib.rt:100:9
 add-j : tie.Need-add-j Inv-loop μ-loop
 add-j c = search needs
 
--- src/lib.rt:98:5
 loop-less : tie.Need-loop-less Inv-loop μ-loop
 loop-less c = search needs
 
--- src/lib.rt:98:5
 loop-again : tie.Need-loop-again Inv-loop μ-loop
 unfolding past
 loop-again c = let l = c .before .before .before .loop in (omega arith, fits-more _ _ _ _ (l .j) (l .v) _ (l .inv .1) (c .with-need .ensures))
 
--- src/lib.rt:85:1
 returns : tie.Need-returns Inv-loop μ-loop
 returns c =
     let l = c .before .loop in

@@ -5,19 +5,15 @@ use Rattle.arcs.proofs.bit_if.Tie as tie
 use Rattle.arcs.proofs.bit_if.Reads as reads
 use Rattle.arcs.proofs.bit_if.Lts as lts
 
--- src/lib.rt:23:17
 cast-result : tie.Need-cast-result
 cast-result c = search needs
 
--- src/lib.rt:23:12
 shl-result : tie.Need-shl-result
 shl-result c = search needs
 
--- src/lib.rt:19:1
 returns : tie.Need-returns
 returns c = rw (c .if1 .taken) (shift-one _ 32 (search needs))
 
--- src/lib.rt:19:1
 returns-2 : tie.Need-returns-2
 returns-2 c = search needs
 

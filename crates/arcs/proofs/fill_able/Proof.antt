@@ -17,29 +17,23 @@ Inv-loop columns steps used needs sets able₀ w₀ able w = (w ≤ used) × (le
 abbrev μ-loop : tie.MeasureT-loop
 μ-loop columns steps used needs sets able₀ w₀ able w = used - w
 
--- src/lib.rt:138:5
 loop-holds : tie.Need-loop-holds Inv-loop μ-loop
 loop-holds c = (omega arith, omega arith, able-none _ _ _ _ _)
 
--- src/lib.rt:139:9
 fill-row-requires : tie.Need-fill-row-requires Inv-loop μ-loop
 fill-row-requires c κs = search needs
 
--- src/lib.rt:140:9
 add-w : tie.Need-add-w Inv-loop μ-loop
 add-w c = search needs
 
--- src/lib.rt:138:5
 loop-less : tie.Need-loop-less Inv-loop μ-loop
 loop-less c = search needs
 
--- src/lib.rt:138:5
 loop-again : tie.Need-loop-again Inv-loop μ-loop
 loop-again c =
     let l = c .before .before .before .loop in
     (omega arith, c .fill-row .ensures .1, able-more _ _ _ _ (l .w) _ _ (c .before .before .before .before .pre .1) (l .inv .2) (c .fill-row .ensures .0))
 
--- src/lib.rt:126:1
 returns : tie.Need-returns Inv-loop μ-loop
 returns c =
     let l = c .before .loop in

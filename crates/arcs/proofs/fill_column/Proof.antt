@@ -21,39 +21,30 @@ Inv-loop used j set sets meets₀ row w₀ meets w =
 abbrev μ-loop : tie.MeasureT-loop
 μ-loop used j set sets meets₀ row w₀ meets w = used - w
 
--- src/lib.rt:170:15
 mul-row : tie.Need-mul-row Inv-loop μ-loop
 mul-row c = search needs
 
--- src/lib.rt:172:5
 loop-holds : tie.Need-loop-holds Inv-loop μ-loop
 loop-holds c = (omega arith, omega arith, below-none _, (λ i h. refl), (λ i h. refl))
 
--- src/lib.rt:173:26
 meet-word-requires : tie.Need-meet-word-requires Inv-loop μ-loop
 meet-word-requires c κs = search needs
 
--- src/lib.rt:173:15
 add-meets : tie.Need-add-meets Inv-loop μ-loop
 add-meets c = search needs
 
--- src/lib.rt:173:9
 mul-meets : tie.Need-mul-meets Inv-loop μ-loop
 mul-meets c = search needs
 
--- src/lib.rt:173:9
 element-write-meets : tie.Need-element-write-meets Inv-loop μ-loop
 element-write-meets c = search needs
 
--- src/lib.rt:174:9
 add-w : tie.Need-add-w Inv-loop μ-loop
 add-w c = search needs
 
--- src/lib.rt:172:5
 loop-less : tie.Need-loop-less Inv-loop μ-loop
 loop-less c = search needs
 
--- src/lib.rt:172:5
 loop-again : tie.Need-loop-again Inv-loop μ-loop
 loop-again c =
     let j = c .before .before .before .args .j in
@@ -65,7 +56,6 @@ loop-again c =
       (λ i h. getD-set-other (l .meets) (j * 8 + l .w) i _ 0 (λ q. omega arith) ∙ l .inv .4 i h),
     )
 
--- src/lib.rt:160:1
 returns : tie.Need-returns Inv-loop μ-loop
 returns c = let l = c .before .loop in (record { each = λ x h. l .inv .2 x (omega arith); before = l .inv .3; after = l .inv .4 }, l .inv .1)
 

@@ -20,57 +20,44 @@ Inv-loop columns used b sets held₀ meets₀ rb j₀ held meets j =
 abbrev μ-loop : tie.MeasureT-loop
 μ-loop columns used b sets held₀ meets₀ rb j₀ held meets j = columns - j
 
--- src/lib.rt:208:14
 mul-rb : tie.Need-mul-rb Inv-loop μ-loop
 mul-rb c = search needs
 
--- src/lib.rt:210:5
 loop-holds : tie.Need-loop-holds Inv-loop μ-loop
 loop-holds c = let p = c .pre in (omega arith, p .0 .3, p .0 .4, below-none _, p .1)
 
--- src/lib.rt:211:24
 add-set : tie.Need-add-set Inv-loop μ-loop
 add-set c = search needs
 
--- src/lib.rt:211:19
 mul-set : tie.Need-mul-set Inv-loop μ-loop
 mul-set c = search needs
 
--- src/lib.rt:211:19
 element-copy-out-set : tie.Need-element-copy-out-set Inv-loop μ-loop
 element-copy-out-set c = search needs
 
--- src/lib.rt:212:31
 mul-renew-column : tie.Need-mul-renew-column Inv-loop μ-loop
 mul-renew-column c = search needs
 
--- src/lib.rt:212:31
 element-copy-out-renew-column : tie.Need-element-copy-out-renew-column Inv-loop μ-loop
 element-copy-out-renew-column c = search needs
 
--- src/lib.rt:212:9
 renew-column-requires : tie.Need-renew-column-requires Inv-loop μ-loop
 renew-column-requires c κs =
     let l = c .before .before .before .before .loop in
     ((c .before .before .before .before .before .pre .0 .1, omega arith, l .inv .2), met-row _ _ _ (l .j) _ _ (omega arith) (l .inv .4))
 
--- src/lib.rt:213:9
 mul-held : tie.Need-mul-held Inv-loop μ-loop
 mul-held c = search needs
 
--- src/lib.rt:213:9
 element-write-held : tie.Need-element-write-held Inv-loop μ-loop
 element-write-held c = search needs
 
--- src/lib.rt:214:9
 add-j : tie.Need-add-j Inv-loop μ-loop
 add-j c = search needs
 
--- src/lib.rt:210:5
 loop-less : tie.Need-loop-less Inv-loop μ-loop
 loop-less c = search needs
 
--- src/lib.rt:210:5
 loop-again : tie.Need-loop-again Inv-loop μ-loop
 unfolding past
 loop-again c =
@@ -82,7 +69,6 @@ loop-again c =
       met-more _ _ _ (l .j) _ (l .held) _ _ (c .before .before .before .before .before .before .pre .0 .1) (omega arith) (l .inv .4) (c .renew-column .ensures .0),
     )
 
--- src/lib.rt:197:1
 returns : tie.Need-returns Inv-loop μ-loop
 unfolding heldIn
 returns c =

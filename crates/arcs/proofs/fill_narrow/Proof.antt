@@ -18,43 +18,33 @@ Inv-loop columns used meets left narrow₀ few₀ j₀ narrow few j = (j ≤ col
 abbrev μ-loop : tie.MeasureT-loop
 μ-loop columns used meets left narrow₀ few₀ j₀ narrow few j = columns - j
 
--- src/lib.rt:295:5
 loop-holds : tie.Need-loop-holds Inv-loop μ-loop
 loop-holds c = (omega arith, omega arith, narrow-none _ _ _ _)
 
--- src/lib.rt:296:9
 mul-narrow : tie.Need-mul-narrow Inv-loop μ-loop
 mul-narrow c = omega (arith, c .before .loop .inv .2 .fits)
 
--- src/lib.rt:296:9
 element-write-narrow : tie.Need-element-write-narrow Inv-loop μ-loop
 element-write-narrow c = omega (arith, c .before .loop .inv .2 .fits, c .before .loop .inv .1)
 
--- src/lib.rt:297:27
 is-wide-requires : tie.Need-is-wide-requires Inv-loop μ-loop
 is-wide-requires c κs = search needs
 
--- src/lib.rt:297:16
 one-unless-requires : tie.Need-one-unless-requires Inv-loop μ-loop
 one-unless-requires c κs = search needs
 
--- src/lib.rt:297:9
 add-few : tie.Need-add-few Inv-loop μ-loop
 add-few c = let l = c .before .before .before .loop in let m = narrow-more _ _ _ (l .j) (l .few) _ _ (l .narrow) (l .inv .2) (let u = l .inv .2 .fits in omega (arith, u, l .inv .1)) (c .before .is-wide .ensures) (c .one-unless .ensures) in omega (arith, m .fits)
 
--- src/lib.rt:298:9
 add-j : tie.Need-add-j Inv-loop μ-loop
 add-j c = search needs
 
--- src/lib.rt:295:5
 loop-less : tie.Need-loop-less Inv-loop μ-loop
 loop-less c = search needs
 
--- src/lib.rt:295:5
 loop-again : tie.Need-loop-again Inv-loop μ-loop
 loop-again c = let l = c .before .before .before .loop in (omega arith, simp length-set (l .inv .1), narrow-more _ _ _ (l .j) (l .few) _ _ (l .narrow) (l .inv .2) (let u = l .inv .2 .fits in omega (arith, u, l .inv .1)) (c .before .is-wide .ensures) (c .one-unless .ensures))
 
--- src/lib.rt:283:1
 returns : tie.Need-returns Inv-loop μ-loop
 returns c =
     let l = c .before .loop in

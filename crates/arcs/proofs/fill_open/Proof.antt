@@ -18,37 +18,29 @@ Inv-loop count used done left₀ w₀ left w = (w ≤ used) × (length left ≡ 
 abbrev μ-loop : tie.MeasureT-loop
 μ-loop count used done left₀ w₀ left w = used - w
 
--- src/lib.rt:249:5
 loop-holds : tie.Need-loop-holds Inv-loop μ-loop
 loop-holds c = (omega arith, omega arith, below-none _)
 
--- src/lib.rt:250:19
 open-word-requires : tie.Need-open-word-requires Inv-loop μ-loop
 open-word-requires c κs = search needs
 
--- src/lib.rt:250:9
 mul-left : tie.Need-mul-left Inv-loop μ-loop
 mul-left c = search needs
 
--- src/lib.rt:250:9
 element-write-left : tie.Need-element-write-left Inv-loop μ-loop
 element-write-left c = search needs
 
--- src/lib.rt:251:9
 add-w : tie.Need-add-w Inv-loop μ-loop
 add-w c = search needs
 
--- src/lib.rt:249:5
 loop-less : tie.Need-loop-less Inv-loop μ-loop
 loop-less c = search needs
 
--- src/lib.rt:249:5
 loop-again : tie.Need-loop-again Inv-loop μ-loop
 loop-again c =
     let l = c .before .before .loop in
     (omega arith, simp length-set (l .inv .1), filled-first _ (l .w) _ (l .left) (l .inv .2) (omega arith) (c .open-word .ensures))
 
--- src/lib.rt:244:1
 returns : tie.Need-returns Inv-loop μ-loop
 returns c = (record { each = λ x h. c .before .loop .inv .2 x (omega arith) }, c .before .loop .inv .1)
 

@@ -21,39 +21,30 @@ Inv-loop columns steps w needs sets able₀ row s₀ able s =
 abbrev μ-loop : tie.MeasureT-loop
 μ-loop columns steps w needs sets able₀ row s₀ able s = steps - s
 
--- src/lib.rt:117:15
 mul-row : tie.Need-mul-row Inv-loop μ-loop
 mul-row c = search needs
 
--- src/lib.rt:119:5
 loop-holds : tie.Need-loop-holds Inv-loop μ-loop
 loop-holds c = (omega arith, omega arith, below-none _, (λ i h. refl))
 
--- src/lib.rt:120:25
 able-word-requires : tie.Need-able-word-requires Inv-loop μ-loop
 able-word-requires c κs = search needs
 
--- src/lib.rt:120:14
 add-able : tie.Need-add-able Inv-loop μ-loop
 add-able c = search needs
 
--- src/lib.rt:120:9
 mul-able : tie.Need-mul-able Inv-loop μ-loop
 mul-able c = search needs
 
--- src/lib.rt:120:9
 element-write-able : tie.Need-element-write-able Inv-loop μ-loop
 element-write-able c = search needs
 
--- src/lib.rt:121:9
 add-s : tie.Need-add-s Inv-loop μ-loop
 add-s c = search needs
 
--- src/lib.rt:119:5
 loop-less : tie.Need-loop-less Inv-loop μ-loop
 loop-less c = search needs
 
--- src/lib.rt:119:5
 loop-again : tie.Need-loop-again Inv-loop μ-loop
 loop-again c =
     let w = c .before .before .before .args .w in
@@ -64,7 +55,6 @@ loop-again c =
       (λ i h. getD-set-other (l .able) (w * 128 + l .s) i _ 0 (λ q. omega arith) ∙ l .inv .3 i h),
     )
 
--- src/lib.rt:106:1
 returns : tie.Need-returns Inv-loop μ-loop
 returns c = let l = c .before .loop in (record { each = λ x h. l .inv .2 x (omega arith); before = l .inv .3 }, l .inv .1)
 

@@ -21,66 +21,51 @@ Inv-loop columns s a wants sets rs ra j₀ j = (j ≤ columns) × (all j (λ i. 
 abbrev μ-loop : tie.MeasureT-loop
 μ-loop columns s a wants sets rs ra j₀ j = columns - j
 
--- src/lib.rt:37:14
 mul-rs : tie.Need-mul-rs Inv-loop μ-loop
 mul-rs c = search needs
 
--- src/lib.rt:38:14
 mul-ra : tie.Need-mul-ra Inv-loop μ-loop
 mul-ra c = search needs
 
--- src/lib.rt:40:5
 loop-holds : tie.Need-loop-holds Inv-loop μ-loop
 unfolding all
 loop-holds c = (omega arith, refl)
 
--- src/lib.rt:41:32
 add-lies : tie.Need-add-lies Inv-loop μ-loop
 add-lies c = search needs
 
--- src/lib.rt:41:26
 mul-lies : tie.Need-mul-lies Inv-loop μ-loop
 mul-lies c = search needs
 
--- src/lib.rt:41:26
 element-copy-out-lies : tie.Need-element-copy-out-lies Inv-loop μ-loop
 element-copy-out-lies c = search needs
 
--- src/lib.rt:41:46
 add-lies-2 : tie.Need-add-lies-2 Inv-loop μ-loop
 add-lies-2 c = search needs
 
--- src/lib.rt:41:41
 mul-lies-2 : tie.Need-mul-lies-2 Inv-loop μ-loop
 mul-lies-2 c = search needs
 
--- src/lib.rt:41:41
 element-copy-out-lies-2 : tie.Need-element-copy-out-lies-2 Inv-loop μ-loop
 element-copy-out-lies-2 c = search needs
 
--- src/lib.rt:41:13
 lies-requires : tie.Need-lies-requires Inv-loop μ-loop
 lies-requires c κs = search needs
 
--- src/lib.rt:42:13
 returns : tie.Need-returns Inv-loop μ-loop
 unfolding fitsIn past
 returns c = sym (all-fails _ _ (c .before .before .before .before .before .loop .j) (c .before .before .before .before .loop-test .taken) (sym (c .before .lies .ensures) ∙ not-true _ (c .if1 .taken)))
 
--- src/lib.rt:44:9
 add-j : tie.Need-add-j Inv-loop μ-loop
 add-j c = search needs
 
--- src/lib.rt:40:5
 loop-less : tie.Need-loop-less Inv-loop μ-loop
 loop-less c = search needs
 
--- src/lib.rt:40:5
 loop-again : tie.Need-loop-again Inv-loop μ-loop
 unfolding past
 loop-again c = (omega arith, all-more _ _ (c .before .before .before .before .before .loop .inv .1) (sym (c .before .lies .ensures) ∙ not-false _ (c .if1 .left)))
 
--- src/lib.rt:27:1
 returns-2 : tie.Need-returns-2 Inv-loop μ-loop
 unfolding fitsIn past
 returns-2 c =

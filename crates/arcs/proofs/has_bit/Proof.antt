@@ -6,11 +6,9 @@ use Rattle.arcs.proofs.has_bit.Reads as reads
 use Rattle.arcs.proofs.has_bit.Lts as lts
 use Rattle.arcs.proofs.bit_if.Reads as bit-if-reads
 
--- src/lib.rt:345:9
 bit-if-requires : tie.Need-bit-if-requires
 bit-if-requires c κs = search needs
 
--- src/lib.rt:341:1
 returns : tie.Need-returns
 unfolding bitAt
 returns c = rw (c .bit-if .ensures)

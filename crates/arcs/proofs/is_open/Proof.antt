@@ -6,16 +6,13 @@ use Rattle.arcs.proofs.is_open.Tie as tie
 use Rattle.arcs.proofs.is_open.Reads as reads
 use Rattle.arcs.proofs.is_open.Lts as lts
 
--- src/lib.rt:224:9
 returns : tie.Need-returns
 unfolding openIn
 returns c = rw (le-ltb _ _ (c .if1 .taken))
 
--- src/lib.rt:226:5
 element-copy-out-result : tie.Need-element-copy-out-result
 element-copy-out-result c = search needs
 
--- src/lib.rt:219:1
 returns-2 : tie.Need-returns-2
 unfolding openIn
 returns-2 c = rw (lt-ltb _ _ (c .before .if1 .left))

@@ -21,57 +21,44 @@ Inv-loop used j meets left row w₀ w = (w ≤ used) × (all w (λ x. lies (getD
 abbrev μ-loop : tie.MeasureT-loop
 μ-loop used j meets left row w₀ w = used - w
 
--- src/lib.rt:265:15
 mul-row : tie.Need-mul-row Inv-loop μ-loop
 mul-row c = search needs
 
--- src/lib.rt:267:5
 loop-holds : tie.Need-loop-holds Inv-loop μ-loop
 unfolding all
 loop-holds c = (omega arith, refl)
 
--- src/lib.rt:268:26
 mul-lies : tie.Need-mul-lies Inv-loop μ-loop
 mul-lies c = search needs
 
--- src/lib.rt:268:26
 element-copy-out-lies : tie.Need-element-copy-out-lies Inv-loop μ-loop
 element-copy-out-lies c = search needs
 
--- src/lib.rt:268:41
 add-lies : tie.Need-add-lies Inv-loop μ-loop
 add-lies c = search needs
 
--- src/lib.rt:268:35
 mul-lies-2 : tie.Need-mul-lies-2 Inv-loop μ-loop
 mul-lies-2 c = search needs
 
--- src/lib.rt:268:35
 element-copy-out-lies-2 : tie.Need-element-copy-out-lies-2 Inv-loop μ-loop
 element-copy-out-lies-2 c = search needs
 
--- src/lib.rt:268:13
 lies-requires : tie.Need-lies-requires Inv-loop μ-loop
 lies-requires c κs = search needs
 
--- src/lib.rt:269:13
 returns : tie.Need-returns Inv-loop μ-loop
 unfolding wideIn
 returns c = sym (all-fails _ _ (c .before .before .before .before .before .loop .w) (c .before .before .before .before .loop-test .taken) (sym (c .before .lies .ensures) ∙ not-true _ (c .if1 .taken)))
 
--- src/lib.rt:271:9
 add-w : tie.Need-add-w Inv-loop μ-loop
 add-w c = search needs
 
--- src/lib.rt:267:5
 loop-less : tie.Need-loop-less Inv-loop μ-loop
 loop-less c = search needs
 
--- src/lib.rt:267:5
 loop-again : tie.Need-loop-again Inv-loop μ-loop
 loop-again c = (omega arith, all-more _ _ (c .before .before .before .before .before .loop .inv .1) (sym (c .before .lies .ensures) ∙ not-false _ (c .if1 .left)))
 
--- src/lib.rt:256:1
 returns-2 : tie.Need-returns-2 Inv-loop μ-loop
 unfolding wideIn
 returns-2 c =

@@ -6,12 +6,10 @@ use Rattle.arcs.proofs.kept_part.Tie as tie
 use Rattle.arcs.proofs.kept_part.Reads as reads
 use Rattle.arcs.proofs.kept_part.Lts as lts
 
--- src/lib.rt:308:9
 returns : tie.Need-returns
 unfolding keptPart isEmpty
 returns c = rw (eq-eqb _ _ (c .if1 .taken))
 
--- src/lib.rt:304:1
 returns-2 : tie.Need-returns-2
 unfolding keptPart isEmpty
 returns-2 c = rw (ne-eqb _ _ (c .if1 .left))

@@ -17,72 +17,55 @@ Inv-loop few s w first narrow lands meets rs v₀ i₀ v i = (i ≤ few) × (v �
 abbrev μ-loop : tie.MeasureT-loop
 μ-loop few s w first narrow lands meets rs v₀ i₀ v i = few - i
 
--- src/lib.rt:326:14
 mul-rs : tie.Need-mul-rs Inv-loop μ-loop
 mul-rs c = search needs
 
--- src/lib.rt:329:5
 loop-holds : tie.Need-loop-holds Inv-loop μ-loop
 loop-holds c = (omega arith, kept-none _ _ _ _ _ _)
 
--- src/lib.rt:331:13
 returns : tie.Need-returns Inv-loop μ-loop
 returns c = sym (kept-zero _ _ _ _ _ _ (c .before .before .loop .i) _ (omega arith) (sym (c .before .before .loop .inv .1) ∙ c .if1 .taken))
 
--- src/lib.rt:333:17
 mul-j : tie.Need-mul-j Inv-loop μ-loop
 mul-j c = search needs
 
--- src/lib.rt:333:17
 element-copy-out-j : tie.Need-element-copy-out-j Inv-loop μ-loop
 element-copy-out-j c = search needs
 
--- src/lib.rt:334:32
 add-kept-part : tie.Need-add-kept-part Inv-loop μ-loop
 add-kept-part c = omega (arith, c .before .before .before .before .pre .1 .each (c .before .before .before .loop .i) (c .before .before .loop-test .taken))
 
--- src/lib.rt:334:26
 mul-kept-part : tie.Need-mul-kept-part Inv-loop μ-loop
 mul-kept-part c = omega (arith, c .before .before .before .before .pre .1 .each (c .before .before .before .loop .i) (c .before .before .loop-test .taken))
 
--- src/lib.rt:334:26
 element-copy-out-kept-part : tie.Need-element-copy-out-kept-part Inv-loop μ-loop
 element-copy-out-kept-part c = omega (arith, c .before .before .before .before .pre .1 .each (c .before .before .before .loop .i) (c .before .before .loop-test .taken))
 
--- src/lib.rt:334:47
 mul-kept-part-2 : tie.Need-mul-kept-part-2 Inv-loop μ-loop
 mul-kept-part-2 c = omega (arith, c .before .before .before .before .before .pre .1 .each (c .before .before .before .before .loop .i) (c .before .before .before .loop-test .taken))
 
--- src/lib.rt:334:47
 add-kept-part-2 : tie.Need-add-kept-part-2 Inv-loop μ-loop
 add-kept-part-2 c = omega (arith, c .before .before .before .before .before .pre .1 .each (c .before .before .before .before .loop .i) (c .before .before .before .loop-test .taken))
 
--- src/lib.rt:334:41
 mul-kept-part-3 : tie.Need-mul-kept-part-3 Inv-loop μ-loop
 mul-kept-part-3 c = omega (arith, c .before .before .before .before .before .pre .1 .each (c .before .before .before .before .loop .i) (c .before .before .before .loop-test .taken))
 
--- src/lib.rt:334:41
 element-copy-out-kept-part-2 : tie.Need-element-copy-out-kept-part-2 Inv-loop μ-loop
 element-copy-out-kept-part-2 c = omega (arith, c .before .before .before .before .before .pre .1 .each (c .before .before .before .before .loop .i) (c .before .before .before .loop-test .taken))
 
--- src/lib.rt:334:9
 kept-part-requires : tie.Need-kept-part-requires Inv-loop μ-loop
 kept-part-requires c κs = search needs
 
--- src/lib.rt:335:9
 add-i : tie.Need-add-i Inv-loop μ-loop
 add-i c = search needs
 
--- src/lib.rt:329:5
 loop-less : tie.Need-loop-less Inv-loop μ-loop
 loop-less c = search needs
 
--- src/lib.rt:329:5
 loop-again : tie.Need-loop-again Inv-loop μ-loop
 unfolding past
 loop-again c = let l = c .before .before .before .before .before .before .loop in (omega arith, kept-more _ _ _ _ _ _ (l .i) _ _ (l .inv .1) (c .kept-part .ensures))
 
--- src/lib.rt:314:1
 returns-2 : tie.Need-returns-2 Inv-loop μ-loop
 returns-2 c =
     let l = c .before .loop in

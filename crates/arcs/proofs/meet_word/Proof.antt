@@ -18,57 +18,44 @@ Inv-loop w j set sets v₀ i₀ v i = Begun (meetsIn sets set j) w i v
 abbrev μ-loop : tie.MeasureT-loop
 μ-loop w j set sets v₀ i₀ v i = 32 - i
 
--- src/lib.rt:151:5
 loop-holds : tie.Need-loop-holds Inv-loop μ-loop
 loop-holds c = begun-none _ _
 
--- src/lib.rt:152:19
 mul-at : tie.Need-mul-at Inv-loop μ-loop
 mul-at c = search needs
 
--- src/lib.rt:152:19
 add-at : tie.Need-add-at Inv-loop μ-loop
 add-at c = search needs
 
--- src/lib.rt:152:18
 mul-at-2 : tie.Need-mul-at-2 Inv-loop μ-loop
 mul-at-2 c = search needs
 
--- src/lib.rt:152:18
 add-at-2 : tie.Need-add-at-2 Inv-loop μ-loop
 add-at-2 c = search needs
 
--- src/lib.rt:153:21
 mul-bit-if : tie.Need-mul-bit-if Inv-loop μ-loop
 mul-bit-if c = search needs
 
--- src/lib.rt:153:21
 element-copy-out-bit-if : tie.Need-element-copy-out-bit-if Inv-loop μ-loop
 element-copy-out-bit-if c = search needs
 
--- src/lib.rt:153:14
 bit-if-requires : tie.Need-bit-if-requires Inv-loop μ-loop
 bit-if-requires c κs = search needs
 
--- src/lib.rt:153:9
 add-v : tie.Need-add-v Inv-loop μ-loop
 unfolding meetsIn past common isEmpty
 add-v c = omega (arith, begun-room _ _ (c .before .before .before .loop .inv) (omega arith) refl (c .bit-if .ensures))
 
--- src/lib.rt:154:9
 add-i : tie.Need-add-i Inv-loop μ-loop
 add-i c = search needs
 
--- src/lib.rt:151:5
 loop-less : tie.Need-loop-less Inv-loop μ-loop
 loop-less c = search needs
 
--- src/lib.rt:151:5
 loop-again : tie.Need-loop-again Inv-loop μ-loop
 unfolding meetsIn past common isEmpty
 loop-again c = begun-more _ _ (c .before .before .before .loop .inv) (omega arith) refl (c .bit-if .ensures)
 
--- src/lib.rt:145:1
 returns : tie.Need-returns Inv-loop μ-loop
 returns c = begun-end _ _ (c .before .loop .inv) (omega arith)
 

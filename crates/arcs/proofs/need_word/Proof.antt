@@ -17,61 +17,47 @@ Inv-loop w j need sets v₀ i₀ v i = Begun (needIn sets need j) w i v
 abbrev μ-loop : tie.MeasureT-loop
 μ-loop w j need sets v₀ i₀ v i = 32 - i
 
--- src/lib.rt:56:5
 loop-holds : tie.Need-loop-holds Inv-loop μ-loop
 loop-holds c = begun-none _ _
 
--- src/lib.rt:57:19
 mul-at : tie.Need-mul-at Inv-loop μ-loop
 mul-at c = search needs
 
--- src/lib.rt:57:19
 add-at : tie.Need-add-at Inv-loop μ-loop
 add-at c = search needs
 
--- src/lib.rt:57:18
 mul-at-2 : tie.Need-mul-at-2 Inv-loop μ-loop
 mul-at-2 c = search needs
 
--- src/lib.rt:57:18
 add-at-2 : tie.Need-add-at-2 Inv-loop μ-loop
 add-at-2 c = search needs
 
--- src/lib.rt:58:40
 mul-lies : tie.Need-mul-lies Inv-loop μ-loop
 mul-lies c = search needs
 
--- src/lib.rt:58:40
 element-copy-out-lies : tie.Need-element-copy-out-lies Inv-loop μ-loop
 element-copy-out-lies c = search needs
 
--- src/lib.rt:58:21
 lies-requires : tie.Need-lies-requires Inv-loop μ-loop
 lies-requires c κs = search needs
 
--- src/lib.rt:58:14
 bit-if-requires : tie.Need-bit-if-requires Inv-loop μ-loop
 bit-if-requires c κs = search needs
 
--- src/lib.rt:58:9
 add-v : tie.Need-add-v Inv-loop μ-loop
 unfolding needIn past
 add-v c = omega (arith, begun-room _ _ (c .before .before .before .before .loop .inv) (omega arith) (c .before .lies .ensures) (c .bit-if .ensures))
 
--- src/lib.rt:59:9
 add-i : tie.Need-add-i Inv-loop μ-loop
 add-i c = search needs
 
--- src/lib.rt:56:5
 loop-less : tie.Need-loop-less Inv-loop μ-loop
 loop-less c = search needs
 
--- src/lib.rt:56:5
 loop-again : tie.Need-loop-again Inv-loop μ-loop
 unfolding needIn past
 loop-again c = begun-more _ _ (c .before .before .before .before .loop .inv) (omega arith) (c .before .lies .ensures) (c .bit-if .ensures)
 
--- src/lib.rt:50:1
 returns : tie.Need-returns Inv-loop μ-loop
 returns c = begun-end _ _ (c .before .loop .inv) (omega arith)
 

@@ -16,43 +16,33 @@ Inv-loop count w done v₀ i₀ v i = Begun (openIn count done) w i v
 abbrev μ-loop : tie.MeasureT-loop
 μ-loop count w done v₀ i₀ v i = 32 - i
 
--- src/lib.rt:236:5
 loop-holds : tie.Need-loop-holds Inv-loop μ-loop
 loop-holds c = begun-none _ _
 
--- src/lib.rt:237:36
 mul-is-open : tie.Need-mul-is-open Inv-loop μ-loop
 mul-is-open c = search needs
 
--- src/lib.rt:237:36
 add-is-open : tie.Need-add-is-open Inv-loop μ-loop
 add-is-open c = search needs
 
--- src/lib.rt:237:21
 is-open-requires : tie.Need-is-open-requires Inv-loop μ-loop
 is-open-requires c κs = search needs
 
--- src/lib.rt:237:14
 bit-if-requires : tie.Need-bit-if-requires Inv-loop μ-loop
 bit-if-requires c κs = search needs
 
--- src/lib.rt:237:9
 add-v : tie.Need-add-v Inv-loop μ-loop
 add-v c = omega (arith, begun-room _ _ (c .before .before .before .loop .inv) (omega arith) (c .before .is-open .ensures) (c .bit-if .ensures))
 
--- src/lib.rt:238:9
 add-i : tie.Need-add-i Inv-loop μ-loop
 add-i c = search needs
 
--- src/lib.rt:236:5
 loop-less : tie.Need-loop-less Inv-loop μ-loop
 loop-less c = search needs
 
--- src/lib.rt:236:5
 loop-again : tie.Need-loop-again Inv-loop μ-loop
 loop-again c = begun-more _ _ (c .before .before .before .loop .inv) (omega arith) (c .before .is-open .ensures) (c .bit-if .ensures)
 
--- src/lib.rt:230:1
 returns : tie.Need-returns Inv-loop μ-loop
 returns c = begun-end _ _ (c .before .loop .inv) (omega arith)
 

@@ -6,15 +6,12 @@ use Rattle.arcs.proofs.renew_column.Reads as reads
 use Rattle.arcs.proofs.renew_column.Lts as lts
 use Rattle.arcs.proofs.fill_column.Reads as fill-column-reads
 
--- src/lib.rt:191:9
 returns : tie.Need-returns
 returns c = (row-same _ _ _ _ _ _ (c .if1 .taken) (c .before .pre .1), search needs)
 
--- src/lib.rt:193:5
 fill-column-requires : tie.Need-fill-column-requires
 fill-column-requires c κs = search needs
 
--- src/lib.rt:179:1
 returns-2 : tie.Need-returns-2
 returns-2 c = search needs
 

@@ -7,19 +7,15 @@ use Rattle.arcs.proofs.with_need.Reads as reads
 use Rattle.arcs.proofs.with_need.Lts as lts
 use Rattle.arcs.proofs.need_word.Reads as need-word-reads
 
--- src/lib.rt:76:9
 returns : tie.Need-returns
 returns c = rw (c .if1 .taken)
 
--- src/lib.rt:79:9
 returns-2 : tie.Need-returns-2
 returns-2 c = rw (c .if2 .taken) (no-need _ _ _ _ (omega arith))
 
--- src/lib.rt:81:9
 need-word-requires : tie.Need-need-word-requires
 need-word-requires c κs = search needs
 
--- src/lib.rt:65:1
 returns-3 : tie.Need-returns-3
 returns-3 c = rw (c .need-word .ensures)
 

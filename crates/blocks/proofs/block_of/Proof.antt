@@ -21,75 +21,57 @@ Inv-loop count cuts state a₀ i₀ a i = (i ≤ count) × (a ≤ i) × (a ≡ f
 abbrev μ-loop : tie.MeasureT-loop
 μ-loop count cuts state a₀ i₀ a i = count - i
 
--- src/lib.rt:272:5
 loop-holds : tie.Need-loop-holds Inv-loop μ-loop
 loop-holds c = (omega arith, omega arith, sym (followed-none _ _))
 
--- src/lib.rt:273:13
 next-number-requires : tie.Need-next-number-requires Inv-loop μ-loop
 next-number-requires c κs = search needs
 
--- src/lib.rt:275:18
 mul-goes-on : tie.Need-mul-goes-on Inv-loop μ-loop
 mul-goes-on c = search needs
 
--- src/lib.rt:275:13
 mul-goes-on-2 : tie.Need-mul-goes-on-2 Inv-loop μ-loop
 mul-goes-on-2 c = search needs
 
--- src/lib.rt:275:13
 shared-slice-read-goes-on : tie.Need-shared-slice-read-goes-on Inv-loop μ-loop
 shared-slice-read-goes-on c = search needs
 
--- src/lib.rt:276:18
 mul-goes-on-3 : tie.Need-mul-goes-on-3 Inv-loop μ-loop
 mul-goes-on-3 c = search needs
 
--- src/lib.rt:276:18
 add-goes-on : tie.Need-add-goes-on Inv-loop μ-loop
 add-goes-on c = search needs
 
--- src/lib.rt:276:13
 mul-goes-on-4 : tie.Need-mul-goes-on-4 Inv-loop μ-loop
 mul-goes-on-4 c = search needs
 
--- src/lib.rt:276:13
 shared-slice-read-goes-on-2 : tie.Need-shared-slice-read-goes-on-2 Inv-loop μ-loop
 shared-slice-read-goes-on-2 c = search needs
 
--- src/lib.rt:276:13
 cast-goes-on : tie.Need-cast-goes-on Inv-loop μ-loop
 cast-goes-on c = let h = c .before .before .before .before .before .before .pre .2 (c .before .before .before .before .loop .i) (c .before .before .before .loop-test .taken) .0 in search (h, needs)
 
--- src/lib.rt:277:18
 mul-goes-on-5 : tie.Need-mul-goes-on-5 Inv-loop μ-loop
 mul-goes-on-5 c = search needs
 
--- src/lib.rt:277:18
 add-goes-on-2 : tie.Need-add-goes-on-2 Inv-loop μ-loop
 add-goes-on-2 c = search needs
 
--- src/lib.rt:277:13
 mul-goes-on-6 : tie.Need-mul-goes-on-6 Inv-loop μ-loop
 mul-goes-on-6 c = search needs
 
--- src/lib.rt:277:13
 shared-slice-read-goes-on-3 : tie.Need-shared-slice-read-goes-on-3 Inv-loop μ-loop
 shared-slice-read-goes-on-3 c = search needs
 
--- src/lib.rt:274:12
 goes-on-requires : tie.Need-goes-on-requires Inv-loop μ-loop
 goes-on-requires c κs = c .before .before .before .before .before .before .before .pre .2 (c .before .before .before .before .before .loop .i) (c .before .before .before .before .loop-test .taken)
 
--- src/lib.rt:283:9
 add-i : tie.Need-add-i Inv-loop μ-loop
 add-i c = search needs
 
--- src/lib.rt:272:5
 loop-less : tie.Need-loop-less Inv-loop μ-loop
 loop-less c = search needs
 
--- src/lib.rt:272:5
 loop-again : tie.Need-loop-again Inv-loop μ-loop
 unfolding cutAt
 loop-again c =
@@ -102,11 +84,9 @@ loop-again c =
       ⊎-elim (λ w. w .1 ∙ n ∙ sym (followed-on (g .cuts .now) (g .state) (l .i) (l .a) _ (l .inv .2) t (w .0 .taken))) (λ w. w .1 ∙ sym (followed-stay (g .cuts .now) (g .state) (l .i) (l .a) _ (l .inv .2) t (w .0 .left))) (c .if1 .came),
     )
 
--- src/lib.rt:285:11
 cast-t24 : tie.Need-cast-t24 Inv-loop μ-loop
 cast-t24 c = search needs
 
--- src/lib.rt:266:1
 returns : tie.Need-returns Inv-loop μ-loop
 returns c =
     let l = c .before .loop in

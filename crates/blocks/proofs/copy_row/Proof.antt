@@ -17,43 +17,33 @@ Inv-loop columns here there sets₀ j₀ sets j = (j ≤ columns) × (length set
 abbrev μ-loop : tie.MeasureT-loop
 μ-loop columns here there sets₀ j₀ sets j = columns - j
 
--- src/lib.rt:117:5
 loop-holds : tie.Need-loop-holds Inv-loop μ-loop
 loop-holds c = (search needs, search needs, sym (laid-none _ _ _))
 
--- src/lib.rt:118:32
 add-sets : tie.Need-add-sets Inv-loop μ-loop
 add-sets c = search needs
 
--- src/lib.rt:118:27
 mul-sets : tie.Need-mul-sets Inv-loop μ-loop
 mul-sets c = search needs
 
--- src/lib.rt:118:27
 element-copy-out-sets : tie.Need-element-copy-out-sets Inv-loop μ-loop
 element-copy-out-sets c = search needs
 
--- src/lib.rt:118:14
 add-sets-2 : tie.Need-add-sets-2 Inv-loop μ-loop
 add-sets-2 c = search needs
 
--- src/lib.rt:118:9
 mul-sets-2 : tie.Need-mul-sets-2 Inv-loop μ-loop
 mul-sets-2 c = search needs
 
--- src/lib.rt:118:9
 element-write-sets : tie.Need-element-write-sets Inv-loop μ-loop
 element-write-sets c = search needs
 
--- src/lib.rt:119:9
 add-j : tie.Need-add-j Inv-loop μ-loop
 add-j c = search needs
 
--- src/lib.rt:117:5
 loop-less : tie.Need-loop-less Inv-loop μ-loop
 loop-less c = search needs
 
--- src/lib.rt:117:5
 loop-again : tie.Need-loop-again Inv-loop μ-loop
 unfolding past
 loop-again c =
@@ -62,7 +52,6 @@ loop-again c =
     let e : getD (l .sets) (g .here + l .j) 0 ≡ getD (g .sets .now) (g .here + l .j) 0 = rw (l .inv .2) (laid-outside (past (g .sets .now) (g .here)) (g .there) (g .sets .now) (l .j) (g .here + l .j) (inl (omega arith))) in
     (omega arith, simp length-set (l .inv .1), rw (e, l .inv .2) (sym (laid-more (past (g .sets .now) (g .here)) (g .there) (g .sets .now) (l .j))))
 
--- src/lib.rt:112:1
 returns : tie.Need-returns Inv-loop μ-loop
 returns c =
     let l = c .before .loop in

@@ -8,43 +8,33 @@ use Rattle.blocks.proofs.cut_ok.Reads as reads
 use Rattle.blocks.proofs.cut_ok.Lts as lts
 use Rattle.blocks.proofs.may_part.Reads as may-part-reads
 
--- src/lib.rt:226:13
 cast-a : tie.Need-cast-a
 cast-a c = search needs
 
--- src/lib.rt:227:13
 cast-j : tie.Need-cast-j
 cast-j c = search needs
 
--- src/lib.rt:229:9
 returns : tie.Need-returns
 returns c = λ t e. let g = c .before .before .before .args in no-block t (g .columns) (g .count) (g .sets .now) (g .cut) e (c .if1 .taken)
 
--- src/lib.rt:232:9
 returns-2 : tie.Need-returns-2
 returns-2 c = λ t e. let g = c .before .before .before .before .args in no-column t (g .columns) (g .count) (g .sets .now) (g .cut) e (c .before .if1 .left) (c .if2 .taken)
 
--- src/lib.rt:234:31
 mul-may-part : tie.Need-mul-may-part
 mul-may-part c = search needs
 
--- src/lib.rt:234:31
 add-may-part : tie.Need-add-may-part
 add-may-part c = search needs
 
--- src/lib.rt:234:26
 mul-may-part-2 : tie.Need-mul-may-part-2
 mul-may-part-2 c = search needs
 
--- src/lib.rt:234:26
 element-copy-out-may-part : tie.Need-element-copy-out-may-part
 element-copy-out-may-part c = search needs
 
--- src/lib.rt:234:5
 may-part-requires : tie.Need-may-part-requires
 may-part-requires c κs = search needs
 
--- src/lib.rt:222:1
 returns-3 : tie.Need-returns-3
 unfolding past
 returns-3 c = λ t e. let g = c .before .before .before .before .before .before .args in c .may-part .ensures ∙ by-parts t (g .columns) (g .count) (g .sets .now) (g .cut) e (c .before .before .before .if1 .left) (c .before .before .if2 .left)

@@ -8,22 +8,18 @@ use Rattle.blocks.proofs.every_position.Tie as tie
 use Rattle.blocks.proofs.every_position.Reads as reads
 use Rattle.blocks.proofs.every_position.Lts as lts
 
--- src/lib.rt:95:7
 shl-result : tie.Need-shl-result
 shl-result c = search needs
 
--- src/lib.rt:95:6
 sub-result : tie.Need-sub-result
 sub-result c = let s = c .args .size in rw (shift-one s 64 (search needs)) (pow-pos s)
 
--- src/lib.rt:95:5
 cast-result : tie.Need-cast-result
 cast-result c =
     let s = c .args .size in
     let l : 2 ^ s ≤ 2 ^ 32 = pow-mono {i = s} {j = 32} (search needs) in
     rw (shift-one s 64 (search needs)) (search (l, needs))
 
--- src/lib.rt:90:1
 returns : tie.Need-returns
 unfolding every
 returns c = rw (shift-one (c .args .size) 64 (search needs))

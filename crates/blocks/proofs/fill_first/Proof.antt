@@ -20,45 +20,36 @@ Inv-loop sets₀ model columns j₀ sets j = (j ≤ columns) × (columns ≤ 16)
 abbrev μ-loop : tie.MeasureT-loop
 μ-loop sets₀ model columns j₀ sets j = columns - j
 
--- src/lib.rt:105:5
 loop-holds : tie.Need-loop-holds Inv-loop μ-loop
 loop-holds c = (search needs, rw columns-of at (c .pre .0 .columns .1), search needs, sym (over-none _ _))
 
--- src/lib.rt:106:34
 element-copy-out-every-position : tie.Need-element-copy-out-every-position Inv-loop μ-loop
 element-copy-out-every-position c = search needs
 
--- src/lib.rt:106:19
 every-position-requires : tie.Need-every-position-requires Inv-loop μ-loop
 every-position-requires c κs =
     let p = c .before .before .before .pre in
     let j = column (c .before .before .loop .j) in
     rw (size-of (c .before .before .before .args .t1) j (c .before .loop-test .taken)) at (p .0 .sizes j (rw columns-of (c .before .loop-test .taken)) .1)
 
--- src/lib.rt:106:9
 mul-sets : tie.Need-mul-sets Inv-loop μ-loop
 mul-sets c = search needs
 
--- src/lib.rt:106:9
 element-write-sets : tie.Need-element-write-sets Inv-loop μ-loop
 element-write-sets c = search needs
 
--- src/lib.rt:107:9
 add-j : tie.Need-add-j Inv-loop μ-loop
 add-j c = search needs
 
--- src/lib.rt:105:5
 loop-less : tie.Need-loop-less Inv-loop μ-loop
 loop-less c = search needs
 
--- src/lib.rt:105:5
 loop-again : tie.Need-loop-again Inv-loop μ-loop
 unfolding firstSet
 loop-again c =
     let l = c .before .before .before .loop in
     (omega arith, l .inv .1, simp length-set (l .inv .2), over-set (firstSet (c .before .before .before .before .args .t1)) (l .j) _ (l .sets) (c .before .before .before .before .args .sets .now) (l .inv .3) (omega arith) (c .every-position .ensures))
 
--- src/lib.rt:99:1
 returns : tie.Need-returns Inv-loop μ-loop
 returns c =
     let l = c .before .loop in

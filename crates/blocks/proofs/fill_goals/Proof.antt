@@ -19,42 +19,33 @@ Inv-loop goals₀ model j₀ goals j = (j ≤ 16) × (length goals ≡ 16) × (g
 abbrev μ-loop : tie.MeasureT-loop
 μ-loop goals₀ model j₀ goals j = 16 - j
 
--- src/lib.rt:83:5
 loop-holds : tie.Need-loop-holds Inv-loop μ-loop
 loop-holds c = (search needs, search needs, sym (over-none _ _))
 
--- src/lib.rt:84:29
 element-copy-out-mark-set : tie.Need-element-copy-out-mark-set Inv-loop μ-loop
 element-copy-out-mark-set c = search needs
 
--- src/lib.rt:84:20
 mark-set-requires : tie.Need-mark-set-requires Inv-loop μ-loop
 mark-set-requires c κs = search needs
 
--- src/lib.rt:84:9
 mul-goals : tie.Need-mul-goals Inv-loop μ-loop
 mul-goals c = search needs
 
--- src/lib.rt:84:9
 element-write-goals : tie.Need-element-write-goals Inv-loop μ-loop
 element-write-goals c = search needs
 
--- src/lib.rt:85:9
 add-j : tie.Need-add-j Inv-loop μ-loop
 add-j c = search needs
 
--- src/lib.rt:83:5
 loop-less : tie.Need-loop-less Inv-loop μ-loop
 loop-less c = search needs
 
--- src/lib.rt:83:5
 loop-again : tie.Need-loop-again Inv-loop μ-loop
 unfolding goalSet
 loop-again c =
     let l = c .before .before .before .loop in
     (omega arith, simp length-set (l .inv .1), over-set (goalSet (c .before .before .before .before .args .t1)) (l .j) _ (l .goals) (c .before .before .before .before .args .goals .now) (l .inv .2) (omega arith) (c .mark-set .ensures))
 
--- src/lib.rt:78:1
 returns : tie.Need-returns Inv-loop μ-loop
 unfolding goalSets
 returns c =

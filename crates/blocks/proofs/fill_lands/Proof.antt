@@ -19,50 +19,39 @@ Inv-loop lands₀ model i₀ lands i = (i ≤ 2048) × (length lands ≡ 2048) �
 abbrev μ-loop : tie.MeasureT-loop
 μ-loop lands₀ model i₀ lands i = 2048 - i
 
--- src/lib.rt:71:5
 loop-holds : tie.Need-loop-holds Inv-loop μ-loop
 loop-holds c = (search needs, search needs, sym (over-none _ _))
 
--- src/lib.rt:71:15
 mul-loop : tie.Need-mul-loop Inv-loop μ-loop
 mul-loop c = search needs
 
--- src/lib.rt:72:29
 element-copy-out-land-set : tie.Need-element-copy-out-land-set Inv-loop μ-loop
 element-copy-out-land-set c = search needs
 
--- src/lib.rt:72:44
 element-copy-out-land-set-2 : tie.Need-element-copy-out-land-set-2 Inv-loop μ-loop
 element-copy-out-land-set-2 c = search needs
 
--- src/lib.rt:72:20
 land-set-requires : tie.Need-land-set-requires Inv-loop μ-loop
 land-set-requires c κs = search needs
 
--- src/lib.rt:72:9
 mul-lands : tie.Need-mul-lands Inv-loop μ-loop
 mul-lands c = search needs
 
--- src/lib.rt:72:9
 element-write-lands : tie.Need-element-write-lands Inv-loop μ-loop
 element-write-lands c = search needs
 
--- src/lib.rt:73:9
 add-i : tie.Need-add-i Inv-loop μ-loop
 add-i c = search needs
 
--- src/lib.rt:71:5
 loop-less : tie.Need-loop-less Inv-loop μ-loop
 loop-less c = search needs
 
--- src/lib.rt:71:5
 loop-again : tie.Need-loop-again Inv-loop μ-loop
 unfolding landsSet
 loop-again c =
     let l = c .before .before .before .before .loop in
     (omega arith, simp length-set (l .inv .1), over-set (landsSet (c .before .before .before .before .before .args .t1)) (l .i) _ (l .lands) (c .before .before .before .before .before .args .lands .now) (l .inv .2) (omega arith) (c .land-set .ensures))
 
--- src/lib.rt:66:1
 returns : tie.Need-returns Inv-loop μ-loop
 unfolding landSets
 returns c =

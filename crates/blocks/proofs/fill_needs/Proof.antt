@@ -19,46 +19,36 @@ Inv-loop needs₀ model i₀ needs i = (i ≤ 2048) × (length needs ≡ 2048) �
 abbrev μ-loop : tie.MeasureT-loop
 μ-loop needs₀ model i₀ needs i = 2048 - i
 
--- src/lib.rt:59:5
 loop-holds : tie.Need-loop-holds Inv-loop μ-loop
 loop-holds c = (search needs, search needs, sym (over-none _ _))
 
--- src/lib.rt:59:15
 mul-loop : tie.Need-mul-loop Inv-loop μ-loop
 mul-loop c = search needs
 
--- src/lib.rt:60:29
 element-copy-out-mark-set : tie.Need-element-copy-out-mark-set Inv-loop μ-loop
 element-copy-out-mark-set c = search needs
 
--- src/lib.rt:60:20
 mark-set-requires : tie.Need-mark-set-requires Inv-loop μ-loop
 mark-set-requires c κs = search needs
 
--- src/lib.rt:60:9
 mul-needs : tie.Need-mul-needs Inv-loop μ-loop
 mul-needs c = search needs
 
--- src/lib.rt:60:9
 element-write-needs : tie.Need-element-write-needs Inv-loop μ-loop
 element-write-needs c = search needs
 
--- src/lib.rt:61:9
 add-i : tie.Need-add-i Inv-loop μ-loop
 add-i c = search needs
 
--- src/lib.rt:59:5
 loop-less : tie.Need-loop-less Inv-loop μ-loop
 loop-less c = search needs
 
--- src/lib.rt:59:5
 loop-again : tie.Need-loop-again Inv-loop μ-loop
 unfolding needSet
 loop-again c =
     let l = c .before .before .before .loop in
     (omega arith, simp length-set (l .inv .1), over-set (needSet (c .before .before .before .before .args .t1)) (l .i) _ (l .needs) (c .before .before .before .before .args .needs .now) (l .inv .2) (omega arith) (c .mark-set .ensures))
 
--- src/lib.rt:54:1
 returns : tie.Need-returns Inv-loop μ-loop
 unfolding needSets
 returns c =

@@ -21,62 +21,48 @@ Inv-loop columns goals sets ra j₀ j = (j ≤ columns) × (all j (λ i. lies (g
 abbrev μ-loop : tie.MeasureT-loop
 μ-loop columns goals sets ra j₀ j = columns - j
 
--- src/lib.rt:197:14
 cast-ra : tie.Need-cast-ra Inv-loop μ-loop
 cast-ra c = search needs
 
--- src/lib.rt:197:14
 mul-ra : tie.Need-mul-ra Inv-loop μ-loop
 mul-ra c = search needs
 
--- src/lib.rt:199:5
 loop-holds : tie.Need-loop-holds Inv-loop μ-loop
 unfolding all
 loop-holds c = (omega arith, refl)
 
--- src/lib.rt:200:18
 mul-lies : tie.Need-mul-lies Inv-loop μ-loop
 mul-lies c = search needs
 
--- src/lib.rt:200:18
 element-copy-out-lies : tie.Need-element-copy-out-lies Inv-loop μ-loop
 element-copy-out-lies c = search needs
 
--- src/lib.rt:200:33
 add-lies : tie.Need-add-lies Inv-loop μ-loop
 add-lies c = search needs
 
--- src/lib.rt:200:28
 mul-lies-2 : tie.Need-mul-lies-2 Inv-loop μ-loop
 mul-lies-2 c = search needs
 
--- src/lib.rt:200:28
 element-copy-out-lies-2 : tie.Need-element-copy-out-lies-2 Inv-loop μ-loop
 element-copy-out-lies-2 c = search needs
 
--- src/lib.rt:200:13
 lies-requires : tie.Need-lies-requires Inv-loop μ-loop
 lies-requires c κs = search needs
 
--- src/lib.rt:201:13
 returns : tie.Need-returns Inv-loop μ-loop
 unfolding goalBy past
 returns c = sym (all-fails _ _ (c .before .before .before .before .before .loop .j) (c .before .before .before .before .loop-test .taken) (sym (c .before .lies .ensures) ∙ not-true _ (c .if1 .taken)))
 
--- src/lib.rt:203:9
 add-j : tie.Need-add-j Inv-loop μ-loop
 add-j c = search needs
 
--- src/lib.rt:199:5
 loop-less : tie.Need-loop-less Inv-loop μ-loop
 loop-less c = search needs
 
--- src/lib.rt:199:5
 loop-again : tie.Need-loop-again Inv-loop μ-loop
 unfolding past
 loop-again c = (omega arith, all-more _ _ (c .before .before .before .before .before .loop .inv .1) (sym (c .before .lies .ensures) ∙ not-false _ (c .if1 .left)))
 
--- src/lib.rt:188:1
 returns-2 : tie.Need-returns-2 Inv-loop μ-loop
 unfolding goalBy past
 returns-2 c =

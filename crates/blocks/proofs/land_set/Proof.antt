@@ -7,20 +7,16 @@ use Rattle.blocks.proofs.land_set.Reads as reads
 use Rattle.blocks.proofs.land_set.Lts as lts
 use Rattle.blocks.proofs.mark_set.Reads as mark-set-reads
 
--- src/lib.rt:48:9
 mark-set-requires : tie.Need-mark-set-requires
 mark-set-requires c κs = search needs
 
--- src/lib.rt:48:9
 returns : tie.Need-returns
 unfolding landSet
 returns c = rw (eq-eqb (c .before .before .before .args .effect .0) 0 (search needs)) (search needs)
 
--- src/lib.rt:50:5
 mark-set-requires-2 : tie.Need-mark-set-requires-2
 mark-set-requires-2 c κs = search needs
 
--- src/lib.rt:44:1
 returns-2 : tie.Need-returns-2
 unfolding landSet
 returns-2 c = rw (ne-eqb (c .before .before .before .args .effect .0) 0 (search needs)) (search needs)

@@ -20,106 +20,81 @@ Inv-loop columns needs lands sets rs ra rb j₀ j = (j ≤ columns) × (all j (�
 abbrev μ-loop : tie.MeasureT-loop
 μ-loop columns needs lands sets rs ra rb j₀ j = columns - j
 
--- src/lib.rt:167:14
 cast-rs : tie.Need-cast-rs Inv-loop μ-loop
 cast-rs c = search needs
 
--- src/lib.rt:167:14
 mul-rs : tie.Need-mul-rs Inv-loop μ-loop
 mul-rs c = search needs
 
--- src/lib.rt:168:14
 cast-ra : tie.Need-cast-ra Inv-loop μ-loop
 cast-ra c = search needs
 
--- src/lib.rt:168:14
 mul-ra : tie.Need-mul-ra Inv-loop μ-loop
 mul-ra c = search needs
 
--- src/lib.rt:169:14
 cast-rb : tie.Need-cast-rb Inv-loop μ-loop
 cast-rb c = search needs
 
--- src/lib.rt:169:14
 mul-rb : tie.Need-mul-rb Inv-loop μ-loop
 mul-rb c = search needs
 
--- src/lib.rt:171:5
 loop-holds : tie.Need-loop-holds Inv-loop μ-loop
 unfolding all
 loop-holds c = (omega arith, refl)
 
--- src/lib.rt:172:26
 add-passes : tie.Need-add-passes Inv-loop μ-loop
 add-passes c = search needs
 
--- src/lib.rt:172:20
 mul-passes : tie.Need-mul-passes Inv-loop μ-loop
 mul-passes c = search needs
 
--- src/lib.rt:172:20
 element-copy-out-passes : tie.Need-element-copy-out-passes Inv-loop μ-loop
 element-copy-out-passes c = search needs
 
--- src/lib.rt:172:41
 add-passes-2 : tie.Need-add-passes-2 Inv-loop μ-loop
 add-passes-2 c = search needs
 
--- src/lib.rt:172:35
 mul-passes-2 : tie.Need-mul-passes-2 Inv-loop μ-loop
 mul-passes-2 c = search needs
 
--- src/lib.rt:172:35
 element-copy-out-passes-2 : tie.Need-element-copy-out-passes-2 Inv-loop μ-loop
 element-copy-out-passes-2 c = search needs
 
--- src/lib.rt:172:55
 add-passes-3 : tie.Need-add-passes-3 Inv-loop μ-loop
 add-passes-3 c = search needs
 
--- src/lib.rt:172:50
 mul-passes-3 : tie.Need-mul-passes-3 Inv-loop μ-loop
 mul-passes-3 c = search needs
 
--- src/lib.rt:172:50
 element-copy-out-passes-3 : tie.Need-element-copy-out-passes-3 Inv-loop μ-loop
 element-copy-out-passes-3 c = search needs
 
--- src/lib.rt:172:69
 add-passes-4 : tie.Need-add-passes-4 Inv-loop μ-loop
 add-passes-4 c = search needs
 
--- src/lib.rt:172:64
 mul-passes-4 : tie.Need-mul-passes-4 Inv-loop μ-loop
 mul-passes-4 c = search needs
 
--- src/lib.rt:172:64
 element-copy-out-passes-4 : tie.Need-element-copy-out-passes-4 Inv-loop μ-loop
 element-copy-out-passes-4 c = search needs
 
--- src/lib.rt:172:13
 passes-requires : tie.Need-passes-requires Inv-loop μ-loop
 passes-requires c κs = search needs
 
--- src/lib.rt:173:13
 returns : tie.Need-returns Inv-loop μ-loop
 unfolding leadsBy past
 returns c = sym (all-fails _ _ (c .before .before .before .before .before .before .before .loop .j) (c .before .before .before .before .before .before .loop-test .taken) (sym (c .before .passes .ensures) ∙ not-true _ (c .if1 .taken)))
 
--- src/lib.rt:175:9
 add-j : tie.Need-add-j Inv-loop μ-loop
 add-j c = search needs
 
--- src/lib.rt:171:5
 loop-less : tie.Need-loop-less Inv-loop μ-loop
 loop-less c = search needs
 
--- src/lib.rt:171:5
 loop-again : tie.Need-loop-again Inv-loop μ-loop
 unfolding past
 loop-again c = (omega arith, all-more _ _ (c .before .before .before .before .before .before .before .loop .inv .1) (sym (c .before .passes .ensures) ∙ not-false _ (c .if1 .left)))
 
--- src/lib.rt:155:1
 returns-2 : tie.Need-returns-2 Inv-loop μ-loop
 unfolding leadsBy past
 returns-2 c =

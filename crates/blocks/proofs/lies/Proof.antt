@@ -6,7 +6,6 @@ use Rattle.blocks.proofs.lies.Tie as tie
 use Rattle.blocks.proofs.lies.Reads as reads
 use Rattle.blocks.proofs.lies.Lts as lts
 
--- src/lib.rt:181:1
 returns : tie.Need-returns
 unfolding lies common
 returns c = search needs

@@ -8,27 +8,21 @@ use Rattle.blocks.proofs.mark_set.Tie as tie
 use Rattle.blocks.proofs.mark_set.Reads as reads
 use Rattle.blocks.proofs.mark_set.Lts as lts
 
--- src/lib.rt:35:9
 returns : tie.Need-returns
 returns c = sym (mark-none _ (search needs))
 
--- src/lib.rt:38:9
 returns-2 : tie.Need-returns-2
 returns-2 c = sym (mark-high _ (c .before .if1 .left) (search needs))
 
--- src/lib.rt:40:11
 sub-result : tie.Need-sub-result
 sub-result c = search needs
 
--- src/lib.rt:40:11
 cast-result : tie.Need-cast-result
 cast-result c = search needs
 
--- src/lib.rt:40:5
 shl-result : tie.Need-shl-result
 shl-result c = search needs
 
--- src/lib.rt:30:1
 returns-3 : tie.Need-returns-3
 unfolding only
 returns-3 c =

@@ -7,17 +7,14 @@ use Rattle.blocks.proofs.may_part.Tie as tie
 use Rattle.blocks.proofs.may_part.Reads as reads
 use Rattle.blocks.proofs.may_part.Lts as lts
 
--- src/lib.rt:213:9
 returns : tie.Need-returns
 unfolding parts isEmpty without
 returns c = rw (eq-eqb _ _ (c .if1 .taken))
 
--- src/lib.rt:216:9
 returns-2 : tie.Need-returns-2
 unfolding parts isEmpty without
 returns-2 c = rw (ne-eqb _ _ (c .before .if1 .left), ne-eqb _ _ (c .if2 .taken))
 
--- src/lib.rt:209:1
 returns-3 : tie.Need-returns-3
 unfolding parts isEmpty without
 returns-3 c = rw (ne-eqb _ _ (c .before .if1 .left), eq-eqb _ _ (c .if2 .left)) refl

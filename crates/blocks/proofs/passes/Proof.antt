@@ -8,14 +8,12 @@ use Rattle.blocks.proofs.passes.Tie as tie
 use Rattle.blocks.proofs.passes.Reads as reads
 use Rattle.blocks.proofs.passes.Lts as lts
 
--- src/lib.rt:143:9
 returns : tie.Need-returns
 unfolding passes lies common isEmpty
 returns c = let g = c .before .args in
     let n : lies (g .need) (g .a) ≡ false = ne-eqb _ _ (c .if1 .taken) in
     rw n refl
 
--- src/lib.rt:146:9
 returns-2 : tie.Need-returns-2
 unfolding passes lies common isEmpty
 returns-2 c = let g = c .before .before .args in
@@ -23,12 +21,10 @@ returns-2 c = let g = c .before .before .args in
     let l : lies (g .land) (g .b) ≡ false = ne-eqb _ _ (c .if2 .taken) in
     rw (n, l) refl
 
--- src/lib.rt:149:9
 returns-3 : tie.Need-returns-3
 unfolding passes lies common isEmpty
 returns-3 c = rw (eq-eqb _ _ (c .before .before .if1 .left), eq-eqb _ _ (c .before .if2 .left), ne-eqb _ _ (c .if3 .taken))
 
--- src/lib.rt:139:1
 returns-4 : tie.Need-returns-4
 unfolding passes lies common isEmpty
 returns-4 c = rw (eq-eqb _ _ (c .before .before .if1 .left), eq-eqb _ _ (c .before .if2 .left), eq-eqb _ _ (c .if3 .left))

@@ -4,11 +4,9 @@ use Rattle.settling.proofs.first_value.Tie as tie
 use Rattle.settling.proofs.first_value.Reads as reads
 use Rattle.settling.proofs.first_value.Lts as lts
 
--- src/lib.rt:29:1
 returns : tie.Need-returns
 returns c = search needs
 
--- src/lib.rt:29:1
 returns-2 : tie.Need-returns-2
 returns-2 c = search needs
 

@@ -10,19 +10,15 @@ use Rattle.settling.proofs.lower.Lts as lts
 use Rattle.arcs.proofs.fits_in.Reads as fits-in-reads
 use Rattle.settling.proofs.sweep.Reads as sweep-reads
 
--- src/lib.rt:145:9
 fits-in-requires : tie.Need-fits-in-requires
 fits-in-requires c κs = search needs
 
--- src/lib.rt:146:9
 returns : tie.Need-returns
 returns c = (no-landing _ _ _ _ _ _ _ _ _ _ _ _ _ [] (sym (c .before .fits-in .ensures) ∙ not-true _ (c .if1 .taken)), search needs)
 
--- src/lib.rt:148:5
 sweep-requires : tie.Need-sweep-requires
 sweep-requires c κs = search needs
 
--- src/lib.rt:127:1
 returns-2 : tie.Need-returns-2
 returns-2 c = (lands-there _ _ _ _ _ _ _ _ _ _ _ _ _ _ (sym (c .before .before .before .fits-in .ensures) ∙ not-false _ (c .before .before .if1 .left)) (c .sweep .ensures .0), c .sweep .ensures .1)
 

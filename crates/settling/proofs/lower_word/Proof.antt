@@ -20,55 +20,42 @@ Inv-loop w v k dist₀ row i₀ dist i = (i ≤ 32) × (length dist ≡ 256) × 
 abbrev μ-loop : tie.MeasureT-loop
 μ-loop w v k dist₀ row i₀ dist i = 32 - i
 
--- src/lib.rt:87:9
 returns : tie.Need-returns Inv-loop μ-loop
 returns c = (word-none _ _ _ _ _ (c .if1 .taken), search needs)
 
--- src/lib.rt:89:15
 mul-row : tie.Need-mul-row Inv-loop μ-loop
 mul-row c = search needs
 
--- src/lib.rt:91:5
 loop-holds : tie.Need-loop-holds Inv-loop μ-loop
 loop-holds c = (omega arith, omega arith, lowered-end _ _ _ (word-start _ _ _ _) (omega arith))
 
--- src/lib.rt:92:12
 has-bit-requires : tie.Need-has-bit-requires Inv-loop μ-loop
 has-bit-requires c κs = search needs
 
--- src/lib.rt:93:25
 add-if3 : tie.Need-add-if3 Inv-loop μ-loop
 add-if3 c = search needs
 
--- src/lib.rt:93:20
 mul-if3 : tie.Need-mul-if3 Inv-loop μ-loop
 mul-if3 c = search needs
 
--- src/lib.rt:93:20
 element-copy-out-if3 : tie.Need-element-copy-out-if3 Inv-loop μ-loop
 element-copy-out-if3 c = search needs
 
--- src/lib.rt:94:22
 add-dist : tie.Need-add-dist Inv-loop μ-loop
 add-dist c = search needs
 
--- src/lib.rt:94:17
 mul-dist : tie.Need-mul-dist Inv-loop μ-loop
 mul-dist c = search needs
 
--- src/lib.rt:94:17
 element-write-dist : tie.Need-element-write-dist Inv-loop μ-loop
 element-write-dist c = search needs
 
--- src/lib.rt:97:9
 add-i : tie.Need-add-i Inv-loop μ-loop
 add-i c = search needs
 
--- src/lib.rt:91:5
 loop-less : tie.Need-loop-less Inv-loop μ-loop
 loop-less c = search needs
 
--- src/lib.rt:91:5
 loop-again : tie.Need-loop-again Inv-loop μ-loop
 loop-again c =
     let i = c .before .before .before .loop .inv in
@@ -82,7 +69,6 @@ loop-again c =
           (c .if2 .came),
     )
 
--- src/lib.rt:82:1
 returns-2 : tie.Need-returns-2 Inv-loop μ-loop
 returns-2 c = (lowered-end _ _ _ (c .before .loop .inv .2) (omega arith), c .before .loop .inv .1)
 

@@ -9,19 +9,15 @@ use Rattle.arcs.proofs.fill_narrow.Reads as fill-narrow-reads
 use Rattle.arcs.proofs.fill_open.Reads as fill-open-reads
 use Rattle.settling.proofs.tries.Reads as tries-reads
 
--- src/lib.rt:217:5
 fill-open-requires : tie.Need-fill-open-requires
 fill-open-requires c κs = search needs
 
--- src/lib.rt:218:5
 fill-meets-requires : tie.Need-fill-meets-requires
 fill-meets-requires c κs = search needs
 
--- src/lib.rt:219:9
 fill-narrow-requires : tie.Need-fill-narrow-requires
 fill-narrow-requires c κs = search needs
 
--- src/lib.rt:220:5
 tries-requires : tie.Need-tries-requires
 tries-requires c κs =
     let p = c .before .before .before .before .before .before .before .before .before .before .before .before .before .before .pre in
@@ -30,7 +26,6 @@ tries-requires c κs =
       (p .1 .0, (c .before .before .before .before .before .before .before .before .fill-meets .ensures .1 .0, (open-made _ _ _ _ _ _ (c .before .before .before .before .before .before .before .before .before .before .before .fill-open .ensures .0) (p .1 .1 .1), c .before .before .before .before .fill-narrow .ensures .0))),
     )
 
--- src/lib.rt:196:1
 returns : tie.Need-returns
 returns c =
     let m = c .before .before .before .before .before .before .before .before .before .fill-meets .ensures in

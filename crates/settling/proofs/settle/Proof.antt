@@ -22,21 +22,17 @@ Inv-loop columns count steps used needs lands goals costs sets able held₀ meet
 abbrev μ-loop : tie.MeasureT-loop
 μ-loop columns count steps used needs lands goals costs sets able held₀ meets₀ left₀ narrow₀ done₀ dist₀ held meets left narrow done dist = zeros done
 
--- src/lib.rt:261:5
 loop-holds : tie.Need-loop-holds Inv-loop μ-loop
 loop-holds c =
     let p = c .before .pre in
     (p .0 .6, p .0 .7, p .0 .8, p .0 .9, p .0 .10, p .0 .5, p .1 .1 .0, (λ a h. refl), begin _ _ _ _ _ _ _ (p .1 .1 .1 .1) (omega (arith, p .0 .10)) (p .1 .1 .1 .0))
 
--- src/lib.rt:262:13
 nearest-requires : tie.Need-nearest-requires Inv-loop μ-loop
 nearest-requires c κs = search needs
 
--- src/lib.rt:266:9
 element-write-done : tie.Need-element-write-done Inv-loop μ-loop
 element-write-done c = search needs
 
--- src/lib.rt:267:9
 relax-requires : tie.Need-relax-requires Inv-loop μ-loop
 relax-requires c κs =
     let p = c .before .before .before .before .before .before .before .before .before .before .before .before .pre in
@@ -45,7 +41,6 @@ relax-requires c κs =
     let near = c .before .before .before .before .before .before .before .nearest .ensures .found (c .before .before .before .before .before .before .if1 .left) in
     ((q .0, q .1, q .2, q .3, q .4, c .before .before .before .before .before .before .if1 .left, i .5, near .known, i .0, i .1, i .2, i .3), (p .1 .0, (i .6, settled-nearest _ _ _ _ _ _ _ (i .8) near)))
 
--- src/lib.rt:261:5
 loop-less : tie.Need-loop-less Inv-loop μ-loop
 loop-less c =
     let near = c .before .before .before .before .before .before .before .before .nearest .ensures .found (c .before .before .before .before .before .before .before .if1 .left) in
@@ -53,7 +48,6 @@ loop-less c =
     let z = zeros-set (l .done) (c .before .before .before .before .before .before .before .before .nearest .result) (omega (arith, c .before .before .before .before .before .before .before .before .before .before .before .before .before .pre .0 .1, c .before .before .before .before .before .before .before .if1 .left, l .inv .4)) (near .open-yet) in
     omega (arith, z)
 
--- src/lib.rt:261:5
 loop-again : tie.Need-loop-again Inv-loop μ-loop
 loop-again c =
     let i = c .before .before .before .before .before .before .before .before .before .before .before .loop .inv in
@@ -71,7 +65,6 @@ loop-again c =
       turn _ _ _ _ (λ a s b l. l .out) (λ a s b l. l .into) (λ s. omega (arith, cheap s)) _ _ _ _ (i .8) near (r .0) (omega (arith, c .before .before .before .before .before .before .before .before .before .before .before .before .before .pre .0 .1, c .before .before .before .before .before .before .before .if1 .left, i .4)),
     )
 
--- src/lib.rt:240:1
 returns : tie.Need-returns Inv-loop μ-loop
 returns c =
     let i = c .before .before .before .before .loop .inv in

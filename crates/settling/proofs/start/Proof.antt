@@ -21,45 +21,35 @@ Inv-loop columns count goals sets dist₀ a₀ dist a = (a ≤ count) × (length
 abbrev μ-loop : tie.MeasureT-loop
 μ-loop columns count goals sets dist₀ a₀ dist a = count - a
 
--- src/lib.rt:47:5
 loop-holds : tie.Need-loop-holds Inv-loop μ-loop
 loop-holds c = (omega arith, omega arith, started-none _ _)
 
--- src/lib.rt:48:68
 cast-t9 : tie.Need-cast-t9 Inv-loop μ-loop
 cast-t9 c = search needs
 
--- src/lib.rt:48:31
 is-goal-block-requires : tie.Need-is-goal-block-requires Inv-loop μ-loop
 is-goal-block-requires c κs = search needs
 
--- src/lib.rt:48:19
 first-value-requires : tie.Need-first-value-requires Inv-loop μ-loop
 first-value-requires c κs = search needs
 
--- src/lib.rt:48:9
 mul-dist : tie.Need-mul-dist Inv-loop μ-loop
 mul-dist c = search needs
 
--- src/lib.rt:48:9
 element-write-dist : tie.Need-element-write-dist Inv-loop μ-loop
 element-write-dist c = search needs
 
--- src/lib.rt:49:9
 add-a : tie.Need-add-a Inv-loop μ-loop
 add-a c = search needs
 
--- src/lib.rt:47:5
 loop-less : tie.Need-loop-less Inv-loop μ-loop
 loop-less c = search needs
 
--- src/lib.rt:47:5
 loop-again : tie.Need-loop-again Inv-loop μ-loop
 loop-again c =
     let i = c .before .before .before .loop .inv in
     (omega arith, simp length-set (i .1), started-more _ _ (i .2) (omega arith) (c .first-value .ensures ∙ ap (λ g. cond g 0 noWay) (c .before .is-goal-block .ensures)))
 
--- src/lib.rt:36:1
 returns : tie.Need-returns Inv-loop μ-loop
 returns c =
     let l = c .before in

@@ -22,35 +22,27 @@ Inv-loop columns count steps few used b needs lands costs sets able meets left n
 abbrev μ-loop : tie.MeasureT-loop
 μ-loop columns count steps few used b needs lands costs sets able meets left narrow dist₀ base s₀ dist s = steps - s
 
--- src/lib.rt:172:16
 mul-base : tie.Need-mul-base Inv-loop μ-loop
 mul-base c = search needs
 
--- src/lib.rt:172:16
 element-copy-out-base : tie.Need-element-copy-out-base Inv-loop μ-loop
 element-copy-out-base c = search needs
 
--- src/lib.rt:174:5
 loop-holds : tie.Need-loop-holds Inv-loop μ-loop
 loop-holds c = (omega arith, omega arith, part-none _ _ _ _ _)
 
--- src/lib.rt:175:30
 mul-weigh : tie.Need-mul-weigh Inv-loop μ-loop
 mul-weigh c = search needs
 
--- src/lib.rt:175:30
 shared-slice-read-weigh : tie.Need-shared-slice-read-weigh Inv-loop μ-loop
 shared-slice-read-weigh c = search needs
 
--- src/lib.rt:175:24
 weigh-requires : tie.Need-weigh-requires Inv-loop μ-loop
 weigh-requires c κs = search needs
 
--- src/lib.rt:175:17
 add-k : tie.Need-add-k Inv-loop μ-loop
 add-k c = search needs
 
--- src/lib.rt:176:9
 lower-requires : tie.Need-lower-requires Inv-loop μ-loop
 lower-requires c κs =
     let st = c .before .before .before .before .before .before .before in
@@ -58,15 +50,12 @@ lower-requires c κs =
     let f = n .fits in
     ((st .pre .0 .0, omega (arith, f, st .pre .0 .0), omega (arith, st .pre .0 .1, st .pre .0 .3), omega (arith, st .pre .0 .2, c .before .before .before .loop-test .taken), omega (arith, st .pre .0 .5, st .pre .0 .1), c .before .before .before .before .loop .inv .1), narrow-listed _ _ _ _ _ _ (st .pre .0 .0) n)
 
--- src/lib.rt:191:9
 add-s : tie.Need-add-s Inv-loop μ-loop
 add-s c = search needs
 
--- src/lib.rt:174:5
 loop-less : tie.Need-loop-less Inv-loop μ-loop
 loop-less c = search needs
 
--- src/lib.rt:174:5
 loop-again : tie.Need-loop-again Inv-loop μ-loop
 loop-again c =
     let l = c .before .before .before .before .before .loop in
@@ -85,7 +74,6 @@ loop-again c =
           (rw (c .before .before .weigh .ensures .0) at (c .lower .ensures .0))),
     )
 
--- src/lib.rt:152:1
 returns : tie.Need-returns Inv-loop μ-loop
 returns c = (part-end _ _ _ _ _ _ _ _ _ (omega arith) (omega arith) (c .before .loop .inv .2), c .before .loop .inv .1)
 

@@ -4,15 +4,12 @@ use Rattle.settling.proofs.weigh.Tie as tie
 use Rattle.settling.proofs.weigh.Reads as reads
 use Rattle.settling.proofs.weigh.Lts as lts
 
--- src/lib.rt:78:5
 mul-result : tie.Need-mul-result
 mul-result c = search needs
 
--- src/lib.rt:78:5
 add-result : tie.Need-add-result
 add-result c = search needs
 
--- src/lib.rt:75:1
 returns : tie.Need-returns
 returns c = search needs
 

@@ -10,37 +10,29 @@ use Rattle.trace.proofs.fits.Reads as reads
 use Rattle.trace.proofs.fits.Lts as lts
 use Rattle.blocks.proofs.leads.Reads as leads-reads
 
--- src/lib.rt:77:8
 mul-if1 : tie.Need-mul-if1
 mul-if1 c = search needs
 
--- src/lib.rt:77:8
 element-copy-out-if1 : tie.Need-element-copy-out-if1
 element-copy-out-if1 c = search needs
 
--- src/lib.rt:78:9
 returns : tie.Need-returns
 returns c = let g = c .before .before .args in
     let e : eqb (getD (g .dist .now) (g .b) 0) (g .rest) ≡ false = ne-eqb _ _ (c .if1 .taken) in
     rw e refl
 
--- src/lib.rt:82:14
 cast-t15 : tie.Need-cast-t15
 cast-t15 c = search needs
 
--- src/lib.rt:83:15
 cast-t17 : tie.Need-cast-t17
 cast-t17 c = search needs
 
--- src/lib.rt:84:15
 cast-t19 : tie.Need-cast-t19
 cast-t19 c = search needs
 
--- src/lib.rt:80:5
 leads-requires : tie.Need-leads-requires
 leads-requires c κs = search needs
 
--- src/lib.rt:63:1
 returns-2 : tie.Need-returns-2
 returns-2 c = rw (eq-eqb _ _ (c .before .if1 .left)) (c .leads .ensures)
 

@@ -27,58 +27,45 @@ Inv-steps columns steps count needs lands costs sets dist from s₀ b₀ s b = (
 abbrev μ-steps : tie.MeasureT-steps
 μ-steps columns steps count needs lands costs sets dist from s₀ b₀ s b = steps - s
 
--- src/lib.rt:106:16
 cast-from : tie.Need-cast-from Inv-loop μ-loop Inv-steps μ-steps
 cast-from c = search needs
 
--- src/lib.rt:109:5
 steps-holds : tie.Need-steps-holds Inv-loop μ-loop Inv-steps μ-steps
 steps-holds c = (omega arith, first-nothing _)
 
--- src/lib.rt:110:13
 to-try-requires : tie.Need-to-try-requires Inv-loop μ-loop Inv-steps μ-steps
 to-try-requires c κs = search needs
 
--- src/lib.rt:111:26
 mul-after : tie.Need-mul-after Inv-loop μ-loop Inv-steps μ-steps
 mul-after c = search needs
 
--- src/lib.rt:111:26
 element-copy-out-after : tie.Need-element-copy-out-after Inv-loop μ-loop Inv-steps μ-steps
 element-copy-out-after c = search needs
 
--- src/lib.rt:111:38
 mul-after-2 : tie.Need-mul-after-2 Inv-loop μ-loop Inv-steps μ-steps
 mul-after-2 c = search needs
 
--- src/lib.rt:111:38
 shared-slice-read-after : tie.Need-shared-slice-read-after Inv-loop μ-loop Inv-steps μ-steps
 shared-slice-read-after c = search needs
 
--- src/lib.rt:111:13
 after-requires : tie.Need-after-requires Inv-loop μ-loop Inv-steps μ-steps
 after-requires c κs = search needs
 
--- src/lib.rt:113:9
 loop-holds : tie.Need-loop-holds Inv-loop μ-loop Inv-steps μ-steps
 loop-holds c = (omega arith, first-nothing _)
 
--- src/lib.rt:114:16
 fits-requires : tie.Need-fits-requires Inv-loop μ-loop Inv-steps μ-steps
 fits-requires c κs =
     let g = c .before .before .before .before .before .before .before .before .before .before .args in
     let k = tried (g .columns) (g .needs .now) (g .lands .now) (g .costs .now) (g .sets .now) (g .dist .now) (g .a .0) (c .before .before .before .before .before .before .before .steps .s) (g .count) _ (c .before .before .before .before .before .to-try .ensures) (c .before .loop .b) (c .loop-test .taken) .1 in
     search (k, needs)
 
--- src/lib.rt:117:13
 add-b : tie.Need-add-b Inv-loop μ-loop Inv-steps μ-steps
 add-b c = search needs
 
--- src/lib.rt:113:9
 loop-less : tie.Need-loop-less Inv-loop μ-loop Inv-steps μ-steps
 loop-less c = search needs
 
--- src/lib.rt:113:9
 loop-again : tie.Need-loop-again Inv-loop μ-loop Inv-steps μ-steps
 loop-again c =
     let g = c .before .before .before .before .before .before .before .before .before .before .before .before .args in
@@ -87,15 +74,12 @@ loop-again c =
     let may = tried (g .columns) (g .needs .now) (g .lands .now) (g .costs .now) (g .sets .now) (g .dist .now) (g .a .0) s (g .count) _ (c .before .before .before .before .before .before .before .to-try .ensures) (l .b) (c .before .before .loop-test .taken) .0 in
     (omega arith, first-more _ (l .b) (l .inv .1) (next-no _ s (l .b) _ (c .before .fits2 .ensures ∙ fits-rest (g .columns) (g .needs .now) (g .lands .now) (g .costs .now) (g .sets .now) (g .dist .now) (g .a .0) s (l .b) _ may (c .before .before .before .before .after .ensures)) (c .if1 .left)))
 
--- src/lib.rt:119:9
 add-s : tie.Need-add-s Inv-loop μ-loop Inv-steps μ-steps
 add-s c = search needs
 
--- src/lib.rt:109:5
 steps-less : tie.Need-steps-less Inv-loop μ-loop Inv-steps μ-steps
 steps-less c = search needs
 
--- src/lib.rt:109:5
 steps-again : tie.Need-steps-again Inv-loop μ-loop Inv-steps μ-steps
 steps-again c =
     let g = c .before .before .before .before .before .before .before .before .before .before .args in
@@ -104,11 +88,9 @@ steps-again c =
     let e : l .b ≡ c .before .before .before .before .before .to-try .result = omega arith in
     (omega arith, first-more _ (s .s) (s .inv .1) (none-found (g .columns) (g .needs .now) (g .lands .now) (g .costs .now) (g .sets .now) (g .dist .now) (g .a .0) (s .s) (g .count) _ (c .before .before .before .before .before .to-try .ensures) (rw e at (l .inv .1))))
 
--- src/lib.rt:122:23
 cast-t27 : tie.Need-cast-t27 Inv-loop μ-loop Inv-steps μ-steps
 cast-t27 c = search needs
 
--- src/lib.rt:122:39
 cast-t29 : tie.Need-cast-t29 Inv-loop μ-loop Inv-steps μ-steps
 cast-t29 c =
     let g = c .before .before .before .before .before .before .args in
@@ -119,7 +101,6 @@ cast-t29 c =
     (c .before .before .steps-test .came) in
     search (k, needs)
 
--- src/lib.rt:92:1
 returns : tie.Need-returns Inv-loop μ-loop Inv-steps μ-steps
 unfolding hopOf
 returns c =
@@ -137,7 +118,6 @@ returns c =
     (next-yes f (s .s) (w .5 .b) _ (w .7 .ensures ∙ fits-rest (g .columns) (g .needs .now) (g .lands .now) (g .costs .now) (g .sets .now) (g .dist .now) (g .a .0) (s .s) (w .5 .b) _ (k .0) (w .4 .ensures)) (w .8 .taken)))))
     (c .before .before .steps-test .came))
 
--- src/lib.rt:92:1
 returns-2 : tie.Need-returns-2 Inv-loop μ-loop Inv-steps μ-steps
 unfolding hopOf nextBy
 returns-2 c =
