@@ -16,7 +16,7 @@ use Rattle.sheets.specs.ModelSheet.{sheetChecks, judgeSheet}
 use Rattle.sheets.specs.Holding.{taskOn}
 use Rattle.sheet_laws.proofs.Held.{accepted-task}
 use Rattle.run.specs.Run as run
-use Rattle.run.specs.Run.{plan, noPlan, «open», blocksIn, rowsOf}
+use Rattle.run.specs.Run.{plan, noPlan, «open», blockCount, rowsOf}
 use Rattle.run.proofs.RunLaws.{run-right}
 use Rattle.run.proofs.LengthLaws.{plan-short}
 use Rattle.refining.specs.Listing.{listed, cutPlace, rowPlace}
@@ -27,18 +27,18 @@ use Rattle.running.specs.Running as running
 use Rattle.running.specs.Running.{roomChecks, runChecks, told, outcome, made}
 use Rattle.running.proofs.RowLaws.{three}
 use Rattle.running.proofs.RunningLaws.{Fits, room-fits}
-use Rattle.counts.specs.Counts.{cutValues, rowValues, Counted}
+use Rattle.counts.specs.Counts.{cutValueCount, rowValueCount, Counted}
 
 -- ---- the numbers of an answer
 module _ (t : Task) (blocks : ℕ) where
-  cuts-told : (a : run.Answer) → cutValues (told t blocks a) ≡ (blocks - 1) * 3
-  unfolding told cutValues
+  cuts-told : (a : run.Answer) → cutValueCount (told t blocks a) ≡ (blocks - 1) * 3
+  unfolding told cutValueCount
   cuts-told (plan ss) = refl
   cuts-told noPlan = refl
   cuts-told («open» e) = refl
 
-  rows-told : (a : run.Answer) → rowValues (told t blocks a) ≡ length (listed rowPlace (rowsOf t a))
-  unfolding told rowValues rowsOf listed
+  rows-told : (a : run.Answer) → rowValueCount (told t blocks a) ≡ length (listed rowPlace (rowsOf t a))
+  unfolding told rowValueCount rowsOf listed
   rows-told (plan ss) = sym (three t ss)
   rows-told noPlan = refl
   rows-told («open» e) = refl
@@ -49,8 +49,8 @@ module _ (t : Task) (blocks : ℕ) where
   counted-told noPlan h g short = (h, g)
   counted-told («open» e) h g short = (h, g)
 
-  rows-few : (room : ℕ) (a : run.Answer) → 1 ≤ room → ((ss : List Step) → a ≡ plan ss → length ss < room) → rowValues (told t blocks a) ≤ (room - 1) * 3
-  unfolding told rowValues
+  rows-few : (room : ℕ) (a : run.Answer) → 1 ≤ room → ((ss : List Step) → a ≡ plan ss → length ss < room) → rowValueCount (told t blocks a) ≤ (room - 1) * 3
+  unfolding told rowValueCount
   rows-few room (plan ss) h short = let q = short ss refl in omega arith
   rows-few room noPlan h short = omega arith
   rows-few room («open» e) h short = omega arith
@@ -73,7 +73,7 @@ module _ (s : List ℕ) (room : ℕ) (c r : List ℕ) where
     -- a run that was made
     pub record Ran : Type 0 where
       pub ok : refusal (runChecks s room c r) ≡ 0
-      pub answer : a ≡ told t (blocksIn o) (o .answer)
+      pub answer : a ≡ told t (blockCount o) (o .answer)
       pub cut-list : c′ ≡ over cutList c
       pub row-list : r′ ≡ over rowList r
 
@@ -85,10 +85,10 @@ module _ (s : List ℕ) (room : ℕ) (c r : List ℕ) where
   -- what the code that goes on has to know
   pub record Known (a : Answer) (c′ r′ : List ℕ) : Type 0 where
     pub counted : Counted a
-    pub cuts-fit : cutValues a ≤ length c
-    pub rows-fit : rowValues a ≤ length r
-    pub cuts-in : cutValues a ≤ length c′
-    pub rows-in : rowValues a ≤ length r′
+    pub cuts-fit : cutValueCount a ≤ length c
+    pub rows-fit : rowValueCount a ≤ length r
+    pub cuts-in : cutValueCount a ≤ length c′
+    pub rows-in : rowValueCount a ≤ length r′
 
   module _ {a : Answer} {c′ r′ : List ℕ} (e : outcome a c′ r′ ≡ running.running s room c r) where
     pub ran-or-not : Ran a c′ r′ ⊎ NotRan a c′ r′
@@ -121,15 +121,15 @@ module _ (s : List ℕ) (room : ℕ) (c r : List ℕ) where
       short : (ss : List Step) → o .answer ≡ plan ss → length ss < room
       short = plan-short t accepted room (fits .some)
 
-      pub cuts-long : cutValues a ≡ length cutList
-      unfolding blocksIn
-      cuts-long = ap cutValues (w .answer) ∙ cuts-told t (blocksIn o) (o .answer) ∙ omega (arith, listed-length (o .made))
+      pub cuts-long : cutValueCount a ≡ length cutList
+      unfolding blockCount
+      cuts-long = ap cutValueCount (w .answer) ∙ cuts-told t (blockCount o) (o .answer) ∙ omega (arith, listed-length (o .made))
 
-      pub rows-long : rowValues a ≡ length rowList
-      rows-long = ap rowValues (w .answer) ∙ rows-told t (blocksIn o) (o .answer)
+      pub rows-long : rowValueCount a ≡ length rowList
+      rows-long = ap rowValueCount (w .answer) ∙ rows-told t (blockCount o) (o .answer)
 
     pub known : Known a c′ r′
-    unfolding Counted cutValues rowValues blocksIn over
+    unfolding Counted cutValueCount rowValueCount blockCount over
     known = ⊎-elim yes-ran not-ran ran-or-not
       where
         yes-ran : Ran a c′ r′ → Known a c′ r′
@@ -137,9 +137,9 @@ module _ (s : List ℕ) (room : ℕ) (c r : List ℕ) where
             let f = fits w in
             let b = few-blocks w in
             record {
-              counted = subst Counted (sym (w .answer)) (counted-told t (blocksIn o) (o .answer) (omega arith) (omega (arith, f .few)) (λ ss q. omega (arith, short w ss q, f .few)));
+              counted = subst Counted (sym (w .answer)) (counted-told t (blockCount o) (o .answer) (omega arith) (omega (arith, f .few)) (λ ss q. omega (arith, short w ss q, f .few)));
               cuts-fit = omega (arith, cuts-long w, listed-length (o .made), f .cuts-fit, b);
-              rows-fit = omega (arith, ap rowValues (w .answer), rows-few t (blocksIn o) room (o .answer) (f .some) (short w), f .rows-fit);
+              rows-fit = omega (arith, ap rowValueCount (w .answer), rows-few t (blockCount o) room (o .answer) (f .some) (short w), f .rows-fit);
               cuts-in = omega (arith, cuts-long w, ap length (w .cut-list), length-append cutList (drop (length cutList) c));
               rows-in = omega (arith, rows-long w, ap length (w .row-list), length-append rowList (drop (length rowList) r));
             }

@@ -7,18 +7,18 @@ use Rattle.running.specs.declared.Answer.{Answer}
 use Rattle.running.specs.declared.Answer.the-variants.{Plan, NoPlan, Open, Refused}
 
 -- there is one cut less than blocks
-unfoldable pub cutValues : Answer → ℕ
-cutValues (Refused n) = 0
-cutValues (Plan cost steps blocks) = (blocks - 1) * 3
-cutValues (NoPlan blocks) = (blocks - 1) * 3
-cutValues (Open estimate blocks) = (blocks - 1) * 3
+unfoldable pub cutValueCount : Answer → ℕ
+cutValueCount (Refused n) = 0
+cutValueCount (Plan cost steps blocks) = (blocks - 1) * 3
+cutValueCount (NoPlan blocks) = (blocks - 1) * 3
+cutValueCount (Open estimate blocks) = (blocks - 1) * 3
 
 -- a plan has one row for each step
-unfoldable pub rowValues : Answer → ℕ
-rowValues (Refused n) = 0
-rowValues (Plan cost steps blocks) = steps * 3
-rowValues (NoPlan blocks) = 0
-rowValues (Open estimate blocks) = 0
+unfoldable pub rowValueCount : Answer → ℕ
+rowValueCount (Refused n) = 0
+rowValueCount (Plan cost steps blocks) = steps * 3
+rowValueCount (NoPlan blocks) = 0
+rowValueCount (Open estimate blocks) = 0
 
 -- the numbers of an answer are those of a room of at most 256 blocks
 unfoldable pub Counted : Answer → Type 0

@@ -1,12 +1,12 @@
 // How many values an answer's cuts and rows take in the lists.
 ghost use mathlib.Core.Path.{_≡_};
-ghost use Rattle.counts.specs.Counts.{cutValues, rowValues, Counted, usable};
+ghost use Rattle.counts.specs.Counts.{cutValueCount, rowValueCount, Counted, usable};
 use planner::Answer;
 
 // How many values the cuts of an answer take: there is one cut less than blocks.
 pub fn cut_values(answer: Answer) -> usize
     requires { ⌜ Counted answer ⌝ }
-    ensures { λ r. ⌜ r ≡ cutValues answer ⌝ }
+    ensures { λ r. ⌜ r ≡ cutValueCount answer ⌝ }
 {
     match answer {
         Answer::Plan {
@@ -26,7 +26,7 @@ pub fn cut_values(answer: Answer) -> usize
 // How many values its rows take: a plan has one for each step.
 pub fn row_values(answer: Answer) -> usize
     requires { ⌜ Counted answer ⌝ }
-    ensures { λ r. ⌜ r ≡ rowValues answer ⌝ }
+    ensures { λ r. ⌜ r ≡ rowValueCount answer ⌝ }
 {
     match answer {
         Answer::Plan {

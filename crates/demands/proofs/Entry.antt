@@ -159,7 +159,7 @@ module _ (s : List ℕ) (room : ℕ) (cuts rows₀ : List ℕ) {r : ℕ} {cuts�
           let o = run.run t room in
           let w = run-right t v room (f .0) in
           let fit : length (o .made) + 1 ≤ room = omega (arith, w .fits) in
-          let e : r ≡ answerNumber (told t (length (o .made) + 1) (o .answer)) = ap (λ (x : RunOutcome). x .answer) (done ∙ entry-made s room cuts rows₀ z) ∙ (unfold madeBytes run.blocksIn in refl) in
+          let e : r ≡ answerNumber (told t (length (o .made) + 1) (o .answer)) = ap (λ (x : RunOutcome). x .answer) (done ∙ entry-made s room cuts rows₀ z) ∙ (unfold madeBytes run.blockCount in refl) in
           let l : rows′ ≡ over (bytesOf (listed rowPlace (rowsOf t (o .answer)))) rows₀ = ap (λ (x : RunOutcome). x .rows) (done ∙ entry-made s room cuts rows₀ z) ∙ (unfold madeBytes in refl) in
           record {
             model = v;

@@ -117,14 +117,14 @@ module _ (s : List ℕ) (room : ℕ) (cuts rs : List ℕ) {r : Answer} {c l : Li
 -- ---- the run of crate rows
 module _ (s : List ℕ) (room : ℕ) (cuts : List ℕ) (rs : List Row) where
   abbrev rowsMade : rows.Outcome
-  rowsMade = let o = run.run (taskOn s) room in rows.outcome (told (taskOn s) (run.blocksIn o) (o .answer)) (over (listed cutPlace (o .made)) cuts) (over (run.rowsOf (taskOn s) (o .answer)) rs)
+  rowsMade = let o = run.run (taskOn s) room in rows.outcome (told (taskOn s) (run.blockCount o) (o .answer)) (over (listed cutPlace (o .made)) cuts) (over (run.rowsOf (taskOn s) (o .answer)) rs)
 
   row-runner : Judged (λ (o : rows.Outcome). running.number (o .answer)) (λ n. rows.outcome (answer.Refused n) cuts rs) (rowChecks s room cuts rs) rowsMade (rowRun s room cuts rs)
   unfolding rowRun rowChecks running.number
   row-runner =
       let t = taskOn s in
       judges _ _ (rowChecks s room cuts rs) _ (numbered-append (sheetChecks s) _ (sheet.numbered-sheet s) (λ z. omega arith, (λ z. omega arith, (λ z. omega arith, tt))))
-      (ran.told-number t (run.blocksIn (run.run t room)) (run.run t room .answer)) refl
+      (ran.told-number t (run.blockCount (run.run t room)) (run.run t room .answer)) refl
 
   module _ {a : Answer} {c : List ℕ} {l : List Row} (done : rows.outcome a c l ≡ rowRun s room cuts rs) where
     pub row-run-judged : Judged (λ (o : rows.Outcome). running.number (o .answer)) (λ n. rows.outcome (answer.Refused n) cuts rs) (rowChecks s room cuts rs) rowsMade (rows.outcome a c l)
@@ -163,8 +163,8 @@ module _ (s : List ℕ) (room : ℕ) (cuts rs : List ℕ) where
   unfolding runEntry madeBytes
   entry-runner =
       let o = run.run (taskOn s) room in
-      let v = answerNumber (told (taskOn s) (run.blocksIn o) (o .answer)) in
-      judges _ _ (entryChecks s room cuts rs) _ numbered-entry (ap (λ (b : Bool). pick b v 0) (le-ltb v (2 ^ 56) (large (taskOn s) (run.blocksIn o) (o .answer))))
+      let v = answerNumber (told (taskOn s) (run.blockCount o) (o .answer)) in
+      judges _ _ (entryChecks s room cuts rs) _ numbered-entry (ap (λ (b : Bool). pick b v 0) (le-ltb v (2 ^ 56) (large (taskOn s) (run.blockCount o) (o .answer))))
       (ap (λ (b : Bool). pick b R 0) (lt-ltb R (2 ^ 56) (omega (arith, entry-low s room cuts rs))))
 
   module _ {r : ℕ} {c l : List ℕ} (done : runOutcome r c l ≡ runEntry s room cuts rs) where

@@ -15,7 +15,7 @@ use Rattle.fields.specs.Judging.{refusal}
 use Rattle.sheets.specs.Holding.{taskOn}
 use Rattle.run.specs.declared.Row.{Row}
 use Rattle.run.specs.Run as run
-use Rattle.run.specs.Run.{plan, noPlan, «open», rows, rowsOf, blocksIn}
+use Rattle.run.specs.Run.{plan, noPlan, «open», rows, rowsOf, blockCount}
 use Rattle.run.proofs.RunLaws.{Cheapest, NoPlan as NonePlans, Right, run-right}
 use Rattle.refining.specs.Listing.{listed, cutPlace}
 use Rattle.running.specs.declared.Answer.{Answer}
@@ -84,7 +84,7 @@ module _ (s : List ℕ) (room : ℕ) (cuts : List ℕ) (rs : List Row) where
       abbrev ending : running.Outcome
       ending = running.running s room cuts values
 
-      same-made : outcome a c l ≡ outcome (told t (blocksIn o) (o .answer)) (over (listed cutPlace (o .made)) cuts) (over (rowsOf t (o .answer)) rs)
+      same-made : outcome a c l ≡ outcome (told t (blockCount o) (o .answer)) (over (listed cutPlace (o .made)) cuts) (over (rowsOf t (o .answer)) rs)
       same-made = row-run-judged s room cuts rs done .done kept
 
       pub same-run : running.outcome a c (ending .rows) ≡ ending
@@ -101,4 +101,4 @@ module _ (s : List ℕ) (room : ℕ) (cuts : List ℕ) (rs : List Row) where
       pub rows-right : RowsSay t (o .made) rs l a
       rows-right =
           subst (RowsSay t (o .made) rs l) (sym (ap (λ (x : lent.Outcome). x .answer) same-made))
-          (rows-say t (o .made) rs l room (blocksIn o) (o .answer) (run-right t (row-ran .model) room (row-ran .some) .right) (ap (λ (x : lent.Outcome). x .rows) same-made))
+          (rows-say t (o .made) rs l room (blockCount o) (o .answer) (run-right t (row-ran .model) room (row-ran .some) .right) (ap (λ (x : lent.Outcome). x .rows) same-made))

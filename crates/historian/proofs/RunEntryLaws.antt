@@ -18,7 +18,7 @@ use Rattle.fields.proofs.JudgingLaws.{applies, refusal-append, inside-means}
 use Rattle.sheets.specs.ModelSheet.{sheetChecks}
 use Rattle.running.specs.declared.Answer.{Answer}
 use Rattle.running.specs.Running.{roomChecks, runChecks, outcome, running}
-use Rattle.counts.specs.Counts.{cutValues, rowValues, Counted, usable}
+use Rattle.counts.specs.Counts.{cutValueCount, rowValueCount, Counted, usable}
 use Rattle.counts.proofs.CountLaws as count
 use Rattle.counts.proofs.UsableLaws.{usable-is, same-test}
 use Rattle.historian.specs.Entries.{bytesAt, bytesOf, fewPlaces, answerNumber, entryChecks, madeBytes, runOutcome, runEntry}
@@ -59,8 +59,8 @@ module _ (s : List ℕ) (room : ℕ) (cuts rows c r : List ℕ) (lc : length c �
 
     -- the bytes have the places
     pub record Room : Type 0 where
-      pub cut-bytes : cutValues a * 4 ≤ length cuts
-      pub row-bytes : rowValues a * 4 ≤ length rows
+      pub cut-bytes : cutValueCount a * 4 ≤ length cuts
+      pub row-bytes : rowValueCount a * 4 ≤ length rows
 
     pub room-for : Room
     room-for =
@@ -71,22 +71,22 @@ module _ (s : List ℕ) (room : ℕ) (cuts rows c r : List ℕ) (lc : length c �
         }
 
     -- the entry's outcome
-    pub entry-told : (cs rs : List ℕ) {cuts′ rows′ : List ℕ} {n : ℕ} → cuts′ ≡ puts 0 (each (cutValues a) (bytesAt (c′ ++ cs))) cuts → rows′ ≡ puts 0 (each (rowValues a) (bytesAt (r′ ++ rs))) rows
+    pub entry-told : (cs rs : List ℕ) {cuts′ rows′ : List ℕ} {n : ℕ} → cuts′ ≡ puts 0 (each (cutValueCount a) (bytesAt (c′ ++ cs))) cuts → rows′ ≡ puts 0 (each (rowValueCount a) (bytesAt (r′ ++ rs))) rows
         → n ≡ answerNumber a → runOutcome n cuts′ rows′ ≡ runEntry s room cuts rows
-    unfolding runEntry madeBytes cutValues rowValues answerNumber
+    unfolding runEntry madeBytes cutValueCount rowValueCount answerNumber
     entry-told cs rs {cuts′} {rows′} {n} p q k = ⊎-elim yes-ran not-ran (count.ran-or-not s room c r e)
       where
         yes-ran : count.Ran s room c r a c′ r′ → runOutcome n cuts′ rows′ ≡ runEntry s room cuts rows
         yes-ran w =
-            let x : cuts′ ≡ over (bytesOf cutList) cuts = p ∙ list-over cutList c cs cuts (cutValues a) (w .cut-list) (count.cuts-long s room c r e w) (room-for .cut-bytes) in
-            let y : rows′ ≡ over (bytesOf rowList) rows = q ∙ list-over rowList r rs rows (rowValues a) (w .row-list) (count.rows-long s room c r e w) (room-for .row-bytes) in
+            let x : cuts′ ≡ over (bytesOf cutList) cuts = p ∙ list-over cutList c cs cuts (cutValueCount a) (w .cut-list) (count.cuts-long s room c r e w) (room-for .cut-bytes) in
+            let y : rows′ ≡ over (bytesOf rowList) rows = q ∙ list-over rowList r rs rows (rowValueCount a) (w .row-list) (count.rows-long s room c r e w) (room-for .row-bytes) in
             let z = k ∙ ap answerNumber (w .answer) in
             simp (eq-eqb (refusal (entryChecks s room cuts rows)) 0 (checks-same ∙ w .ok)) (rw (x, y, z))
 
         not-ran : count.NotRan s room c r a c′ r′ → runOutcome n cuts′ rows′ ≡ runEntry s room cuts rows
         not-ran b =
-            let x : cuts′ ≡ cuts = p ∙ ap (λ (z : Answer). puts 0 (each (cutValues z) (bytesAt (c′ ++ cs))) cuts) (b .answer) ∙ nothing-put (c′ ++ cs) cuts in
-            let y : rows′ ≡ rows = q ∙ ap (λ (z : Answer). puts 0 (each (rowValues z) (bytesAt (r′ ++ rs))) rows) (b .answer) ∙ nothing-put (r′ ++ rs) rows in
+            let x : cuts′ ≡ cuts = p ∙ ap (λ (z : Answer). puts 0 (each (cutValueCount z) (bytesAt (c′ ++ cs))) cuts) (b .answer) ∙ nothing-put (c′ ++ cs) cuts in
+            let y : rows′ ≡ rows = q ∙ ap (λ (z : Answer). puts 0 (each (rowValueCount z) (bytesAt (r′ ++ rs))) rows) (b .answer) ∙ nothing-put (r′ ++ rs) rows in
             let z : n ≡ refusal (entryChecks s room cuts rows) = k ∙ ap answerNumber (b .answer) ∙ sym checks-same in
             simp (ne-eqb (refusal (entryChecks s room cuts rows)) 0 (λ v. b .bad (sym checks-same ∙ v))) (rw (x, y) (ap (λ (m : ℕ). runOutcome m cuts rows) z))
 
@@ -98,13 +98,13 @@ module _ (s : List ℕ) (room : ℕ) (cutList rowList : List ℕ) (m n : ℕ) {a
   pub counted : Counted a
   counted = known .counted
 
-  pub cuts-go : (cuts : List ℕ) {k : ℕ} → length cutList ≡ 765 → m ≤ 255 → m * 12 ≤ length cuts → k ≡ cutValues a
+  pub cuts-go : (cuts : List ℕ) {k : ℕ} → length cutList ≡ 765 → m ≤ 255 → m * 12 ≤ length cuts → k ≡ cutValueCount a
       → (k < 1024) × (k ≤ length (c′ ++ drop (m * 3) cutList)) × (k * 4 ≤ length cuts)
   cuts-go cuts h f w z =
       let l = length-take-le (m * 3) cutList (omega arith) in
       (omega (arith, known .cuts-fit, l), omega (arith, known .cuts-in, length-append c′ (drop (m * 3) cutList)), omega (arith, known .cuts-fit, l))
 
-  pub rows-go : (rows : List ℕ) {k : ℕ} → length rowList ≡ 765 → n ≤ 255 → n * 12 ≤ length rows → k ≡ rowValues a
+  pub rows-go : (rows : List ℕ) {k : ℕ} → length rowList ≡ 765 → n ≤ 255 → n * 12 ≤ length rows → k ≡ rowValueCount a
       → (k < 1024) × (k ≤ length (r′ ++ drop (n * 3) rowList)) × (k * 4 ≤ length rows)
   rows-go rows h f w z =
       let l = length-take-le (n * 3) rowList (omega arith) in
@@ -114,7 +114,7 @@ module _ (s : List ℕ) (room : ℕ) (cutList rowList : List ℕ) (m n : ℕ) {a
     part : (list bytes : List ℕ) {k : ℕ} → length list ≡ 765 → k ≡ usable 255 (length bytes / 12) → length (take (k * 3) list) ≡ usable 255 (length bytes / 12) * 3
     part list bytes {k} l e = length-take-le (k * 3) list (omega (arith, usable-is 255 (length bytes / 12) .few)) ∙ ap (λ (x : ℕ). x * 3) e
 
-    pub told-in : {k l x : ℕ} {cuts′ rows′ : List ℕ} → k ≡ cutValues a → l ≡ rowValues a → x ≡ answerNumber a
+    pub told-in : {k l x : ℕ} {cuts′ rows′ : List ℕ} → k ≡ cutValueCount a → l ≡ rowValueCount a → x ≡ answerNumber a
         → cuts′ ≡ puts 0 (each k (bytesAt (c′ ++ drop (m * 3) cutList))) cuts → rows′ ≡ puts 0 (each l (bytesAt (r′ ++ drop (n * 3) rowList))) rows → runOutcome x cuts′ rows′ ≡ runEntry s room cuts rows
     told-in k l x y z =
         entry-told s room cuts rows (take (m * 3) cutList) (take (n * 3) rowList) (part cutList cuts (h .0) p) (part rowList rows (h .1) q) e (drop (m * 3) cutList) (drop (n * 3) rowList)

@@ -9,7 +9,7 @@ use Rattle.fields.specs.Judging.{Check, check, pick, refusal, each}
 use Rattle.sheets.specs.ModelSheet.{sheetChecks}
 use Rattle.sheets.specs.Holding.{taskOn}
 use Rattle.run.specs.Run as run
-use Rattle.run.specs.Run.{blocksIn, rowsOf}
+use Rattle.run.specs.Run.{blockCount, rowsOf}
 use Rattle.refining.specs.Listing.{listed, cutPlace, rowPlace}
 use Rattle.running.specs.declared.Answer.{Answer}
 use Rattle.running.specs.declared.Answer.the-variants.{Plan, NoPlan, Open, Refused}
@@ -58,7 +58,7 @@ runOutcome a cuts rows = record { answer = a; cuts = cuts; rows = rows }
 -- a run that is made: the bytes of its cuts, and for a plan those of its rows, over the front of the lists
 unfoldable pub madeBytes : Task → run.Outcome → List ℕ → List ℕ → RunOutcome
 madeBytes t o cuts rows =
-    runOutcome (answerNumber (told t (blocksIn o) (o .answer))) (over (bytesOf (listed cutPlace (o .made))) cuts) (over (bytesOf (listed rowPlace (rowsOf t (o .answer)))) rows)
+    runOutcome (answerNumber (told t (blockCount o) (o .answer))) (over (bytesOf (listed cutPlace (o .made))) cuts) (over (bytesOf (listed rowPlace (rowsOf t (o .answer)))) rows)
 
 -- a refusal returns only its number and changes nothing lent
 unfoldable pub runEntry : List ℕ → ℕ → List ℕ → List ℕ → RunOutcome

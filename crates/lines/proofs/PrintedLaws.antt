@@ -21,7 +21,7 @@ use Rattle.io.specs.Counts.{Counts}
 use Rattle.running.specs.declared.Answer.{Answer}
 use Rattle.running.specs.declared.Answer.the-variants.{Plan, NoPlan, Open, Refused}
 use Rattle.running.specs.Running.{roomChecks, runChecks, outcome, running}
-use Rattle.counts.specs.Counts.{rowValues, Counted}
+use Rattle.counts.specs.Counts.{rowValueCount, Counted}
 use Rattle.counts.proofs.CountLaws as count
 use Rattle.lines.specs.Lines.{decimal, labelled, planText, noPlanText, openText, refusedText, stepsText, blocksText, space, lineEnd, firstLine, rowLine, rowLines, madeLines, ranLines, printed, Put}
 use Rattle.lines.proofs.LineLaws.{join, same-long, decimal-short}
@@ -77,7 +77,7 @@ module _ (s : List ℕ) (room : ℕ) (c r : List ℕ) (h : (length c ≡ 765) ×
     pub counted : Counted a
     counted = count.known s room c r e .counted
 
-    pub rows-go : {k at : ℕ} {l l′ : List ℕ} {v : ℕ} → v ≡ rowValues a → k ≡ v / 3 → 65536 ≤ length l → Put 0 (firstLine a) l at l′ → (k < 256) × (k * 3 ≤ length r′) × (at + k * 128 ≤ length l′)
+    pub rows-go : {k at : ℕ} {l l′ : List ℕ} {v : ℕ} → v ≡ rowValueCount a → k ≡ v / 3 → 65536 ≤ length l → Put 0 (firstLine a) l at l′ → (k < 256) × (k * 3 ≤ length r′) × (at + k * 128 ≤ length l′)
     rows-go v q m p =
         let w = count.known s room c r e in
         let f = first-short a in
@@ -86,7 +86,7 @@ module _ (s : List ℕ) (room : ℕ) (c r : List ℕ) (h : (length c ≡ 765) ×
     rowList : List ℕ
     rowList = count.rowList s room c r
 
-    lines-ran : count.Ran s room c r a c′ r′ → {k : ℕ} → k ≡ rowValues a / 3 → firstLine a ++ each k (rowLine r′) ≡ ranLines s room
+    lines-ran : count.Ran s room c r a c′ r′ → {k : ℕ} → k ≡ rowValueCount a / 3 → firstLine a ++ each k (rowLine r′) ≡ ranLines s room
     unfolding ranLines madeLines rowLines over rowList
     lines-ran b {k} q =
         let n = count.rows-long s room c r e b in
@@ -94,17 +94,17 @@ module _ (s : List ℕ) (room : ℕ) (c r : List ℕ) (h : (length c ≡ 765) ×
         ap₂ (λ (j : ℕ) (m : List ℕ). each j (rowLine m)) (q ∙ ap (λ (j : ℕ). j / 3) n) (b .row-list) ∙ front-rows rowList (drop (length rowList) r) (length rowList / 3) (omega arith) in
         simp (eq-eqb N 0 (checks-same ∙ b .ok)) (ap₂ (λ (u : Answer) (m : List ℕ). firstLine u ++ m) (b .answer) x)
 
-    lines-not : count.NotRan s room c r a c′ r′ → {k : ℕ} → k ≡ rowValues a / 3 → firstLine a ++ each k (rowLine r′) ≡ ranLines s room
-    unfolding ranLines rowValues each
+    lines-not : count.NotRan s room c r a c′ r′ → {k : ℕ} → k ≡ rowValueCount a / 3 → firstLine a ++ each k (rowLine r′) ≡ ranLines s room
+    unfolding ranLines rowValueCount each
     lines-not b {k} q =
-        let z : k ≡ 0 = q ∙ ap (λ (u : Answer). rowValues u / 3) (b .answer) in
+        let z : k ≡ 0 = q ∙ ap (λ (u : Answer). rowValueCount u / 3) (b .answer) in
         ap₂ (λ (u : Answer) (j : ℕ). firstLine u ++ each j (rowLine r′)) (b .answer) z ∙ append-nil _ ∙ ap (λ (j : ℕ). firstLine (Refused j)) (sym checks-same) ∙ sym (simp (ne-eqb N 0 (λ v. b .bad (sym checks-same ∙ v))))
 
-    pub lines-put : {k at at′ : ℕ} {l l′ l″ : List ℕ} {v : ℕ} → v ≡ rowValues a → k ≡ v / 3 → Put 0 (firstLine a) l at l′ → Put at (each k (rowLine r′)) l′ at′ l″ × (at′ ≤ at + k * 128) → Put 0 (ranLines s room) l at′ l″ × (at′ ≤ 65536)
+    pub lines-put : {k at at′ : ℕ} {l l′ l″ : List ℕ} {v : ℕ} → v ≡ rowValueCount a → k ≡ v / 3 → Put 0 (firstLine a) l at l′ → Put at (each k (rowLine r′)) l′ at′ l″ × (at′ ≤ at + k * 128) → Put 0 (ranLines s room) l at′ l″ × (at′ ≤ 65536)
     lines-put {k} {at} {at′} {l} {l′} {l″} v q p w =
         let g = count.known s room c r e in
         let f = first-short a in
-        let z : k ≡ rowValues a / 3 = q ∙ ap (λ (j : ℕ). j / 3) v in
+        let z : k ≡ rowValueCount a / 3 = q ∙ ap (λ (j : ℕ). j / 3) v in
         let same = ⊎-elim (λ (b : count.Ran s room c r a c′ r′). lines-ran b z) (λ (b : count.NotRan s room c r a c′ r′). lines-not b z) (count.ran-or-not s room c r e) in
         (subst (λ (x : List ℕ). Put 0 x l at′ l″) same (join p (w .0)), omega (arith, w .1, g .rows-fit, h .1, p .next, f))
 

@@ -14,7 +14,7 @@ use Rattle.fields.specs.Places.{puts}
 use Rattle.sheets.specs.ModelSheet.{sheetChecks}
 use Rattle.sheets.specs.Holding.{taskOn}
 use Rattle.run.specs.Run as run
-use Rattle.run.specs.Run.{blocksIn, rowsOf}
+use Rattle.run.specs.Run.{blockCount, rowsOf}
 use Rattle.refining.specs.Listing.{listed, rowPlace}
 use Rattle.running.specs.declared.Answer.{Answer}
 use Rattle.running.specs.declared.Answer.the-variants.{Plan, NoPlan, Open, Refused}
@@ -75,7 +75,7 @@ rowLines list = each (length list / 3) (rowLine list)
 
 -- for a run that is made: the first line, and the rows of a plan
 unfoldable pub madeLines : Task → run.Outcome → List ℕ
-madeLines t o = firstLine (told t (blocksIn o) (o .answer)) ++ rowLines (listed rowPlace (rowsOf t (o .answer)))
+madeLines t o = firstLine (told t (blockCount o) (o .answer)) ++ rowLines (listed rowPlace (rowsOf t (o .answer)))
 
 -- the sheet is judged, then 7
 unfoldable pub ranLines : List ℕ → ℕ → List ℕ

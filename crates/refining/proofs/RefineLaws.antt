@@ -125,7 +125,7 @@ module _ (t : Task) (v : Accepted t) (columns : ℕ) (wide : columnCount t ≡ c
     known (Flaw e c) h = h
 
     ends : refine t (spare - made) (cutsIn made cuts) ≡ ended t (cutsIn made cuts) → RunEnds (refine t spare []) (endBy l made) steps cuts₀ cuts path
-    unfolding ended over run.blocksIn
+    unfolding ended over run.blockCount
     ends f =
         let o = g .left ∙ f in
         let m : length (listed cutPlace (cutsIn made cuts)) ≡ made * 3 = listed-length (cutsIn made cuts) ∙ ap (λ (n : ℕ). n * 3) (cuts-length made cuts) in

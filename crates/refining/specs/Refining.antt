@@ -88,6 +88,6 @@ StepsFit (Open e b) long = Unit {0}
 -- a run ended: its answer, its blocks, and its cuts in the lent list
 pub record RunEnds (o : Outcome) (r : Ended) (steps : ℕ) (cuts₀ cuts path : List ℕ) : Type 0 where
   pub answer : answerOf r path ≡ o .answer
-  pub blocks : blocksTold r ≡ run.blocksIn o
+  pub blocks : blocksTold r ≡ run.blockCount o
   pub list : cuts ≡ over (listed cutPlace (o .made)) cuts₀
   pub known : KnownEnd steps r path

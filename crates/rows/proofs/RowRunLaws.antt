@@ -22,7 +22,7 @@ use Rattle.sheets.specs.LentTables.{tooFew}
 use Rattle.sheets.specs.Holding.{taskOn}
 use Rattle.run.specs.declared.Row.{Row}
 use Rattle.run.specs.Run as run
-use Rattle.run.specs.Run.{plan, noPlan, «open», rows, rowsOf, blocksIn}
+use Rattle.run.specs.Run.{plan, noPlan, «open», rows, rowsOf, blockCount}
 use Rattle.blocks.specs.declared.Cut.{Cut}
 use Rattle.run.proofs.RunLaws.{Right, run-right}
 use Rattle.refining.specs.Listing.{listed, rowPlace}
@@ -106,7 +106,7 @@ module _ (s : List ℕ) (room : ℕ) (cuts : List ℕ) (lent : List Row) (list :
     put w =
         let xs = listed rowPlace planned in
         let ys = drop (length xs) list ++ vs in
-        let k = ap rowCount (w .answer) ∙ rows-counted t (blocksIn o) (o .answer) in
+        let k = ap rowCount (w .answer) ∙ rows-counted t (blockCount o) (o .answer) in
         let z : v ++ vs ≡ xs ++ ys = ap (λ (x : List ℕ). x ++ vs) (w .row-list) ∙ append-assoc xs (drop (length xs) list) vs in
         let many = count.known s room cuts list e .rows-fit in
         let long = count.rows-long s room cuts list e w in

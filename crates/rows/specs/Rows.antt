@@ -13,7 +13,7 @@ use Rattle.sheets.specs.Holding.{taskOn}
 use Rattle.sheets.specs.LentTables.{tooFew}
 use Rattle.run.specs.declared.Row.{Row}
 use Rattle.run.specs.Run as run
-use Rattle.run.specs.Run.{blocksIn, rowsOf}
+use Rattle.run.specs.Run.{blockCount, rowsOf}
 use Rattle.refining.specs.Listing.{listed, cutPlace}
 use Rattle.running.specs.declared.Answer.{Answer}
 use Rattle.running.specs.declared.Answer.the-variants.{Plan, NoPlan, Open, Refused}
@@ -64,7 +64,7 @@ rowRun s room cuts rows =
     let n = refusal (rowChecks s room cuts rows) in
     let t = taskOn s in
     let o = run.run t room in
-    pick (eqb n 0) (outcome (told t (blocksIn o) (o .answer)) (over (listed cutPlace (o .made)) cuts) (over (rowsOf t (o .answer)) rows)) (outcome (Refused n) cuts rows)
+    pick (eqb n 0) (outcome (told t (blockCount o) (o .answer)) (over (listed cutPlace (o .made)) cuts) (over (rowsOf t (o .answer)) rows)) (outcome (Refused n) cuts rows)
 
 -- ---- what code counts
 

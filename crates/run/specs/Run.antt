@@ -159,8 +159,8 @@ module _ (t : Task) where
   run room = refine (room - 1) []
 
 -- answers carry the number of blocks: the number of cuts made plus one
-unfoldable pub blocksIn : Outcome → ℕ
-blocksIn o = length (o .made) + 1
+unfoldable pub blockCount : Outcome → ℕ
+blockCount o = length (o .made) + 1
 
 -- the rows of the change sheet, each with step, tenths and tenths left
 unfoldable pub rows : Task → List Step → List Row

@@ -24,7 +24,7 @@ use Rattle.sheets.specs.ModelSheet.{sheetChecks, judgeSheet}
 use Rattle.sheets.specs.Holding.{taskOn}
 use Rattle.sheet_laws.proofs.Held.{accepted-task}
 use Rattle.run.specs.Run as run
-use Rattle.run.specs.Run.{plan, noPlan, «open», rows, rowsOf, blocksIn}
+use Rattle.run.specs.Run.{plan, noPlan, «open», rows, rowsOf, blockCount}
 use Rattle.run.proofs.RunLaws.{Cheapest, NoPlan as NonePlans, Right, run-right}
 use Rattle.refining.specs.Listing.{listed, cutPlace, rowPlace}
 use Rattle.running.specs.declared.Answer.{Answer}
@@ -114,7 +114,7 @@ module _ (s : List ℕ) (room : ℕ) (cuts rows₀ : List ℕ) where
         let f = room-fits room cuts rows₀ (parts .1) in
         let r = run-right t v room (f .some) in
         let o = run.run t room in
-        let e : a ≡ told t (length (o .made) + 1) (o .answer) = ap (λ (x : Outcome). x .answer) whole-run ∙ (unfold made run.blocksIn in refl) in
+        let e : a ≡ told t (length (o .made) + 1) (o .answer) = ap (λ (x : Outcome). x .answer) whole-run ∙ (unfold made run.blockCount in refl) in
         let l : rows′ ≡ over (listed rowPlace (rowsOf t (o .answer))) rows₀ = ap (λ (x : Outcome). x .rows) whole-run ∙ (unfold made in refl) in
         record {
           model = v;

@@ -89,5 +89,5 @@ unfolding answer asked sevens running.running running.runChecks running.roomChec
     distances.leadsTo distances.plus distances.zeroFar distances.nearer distances.pick distances.least distances.via distances.farOf distances.onward distances.better
     distances.round distances.rounds distances.distances distances.stateFar distances.estimate
     run.keeps run.nextHop run.trace run.wantedAt run.allowed run.backAt run.goalWanted run.needWanted run.backWanted run.walk run.cutColumn run.cutFor
-    run.lookWalk run.lookFrom run.look run.cutOf run.endOf run.refine run.run run.rows run.rowsOf run.blocksIn
+    run.lookWalk run.lookFrom run.look run.cutOf run.endOf run.refine run.run run.rows run.rowsOf run.blockCount
 answered-examples = refl

@@ -30,4 +30,4 @@ module _ (s : List ℕ) (room : ℕ) (cuts rows : List ℕ) where
   unfolding running made number
   runner =
       let t = taskOn s in
-      judges _ _ (runChecks s room cuts rows) _ numbered (told-number t (run.blocksIn (run.run t room)) (run.run t room .answer)) refl
+      judges _ _ (runChecks s room cuts rows) _ numbered (told-number t (run.blockCount (run.run t room)) (run.run t room .answer)) refl

@@ -160,6 +160,6 @@ module _ (s : List ℕ) (room : ℕ) (cuts rows : List ℕ) where
             unfolding running specs.made run.run
             ran {a} {rows′} p =
                 let q : 0 ≡ refusal (runChecks s room cuts rows) = after (sym (sym j ∙ k)) in
-                let x : a ≡ told t (run.blocksIn (refine t (room - 1) [])) (refine t (room - 1) [] .answer) = p .0 ∙ ap₂ (told t) (w .blocks) (w .answer) in
+                let x : a ≡ told t (run.blockCount (refine t (room - 1) [])) (refine t (room - 1) [] .answer) = p .0 ∙ ap₂ (told t) (w .blocks) (w .answer) in
                 let y : rows′ ≡ over (listed rowPlace (rowsOf t (refine t (room - 1) [] .answer))) rows = p .1 ∙ ap (λ (b : run.Answer). over (listed rowPlace (rowsOf t b)) rows) (w .answer) in
                 simp (eq-eqb (refusal (runChecks s room cuts rows)) 0 (sym q)) (rw (x, y, w .list) (ap (λ (u : Task). specs.made u (refine u (room - 1) []) cuts rows) (given-task s e z)))

@@ -12,7 +12,7 @@ use Rattle.sheets.specs.ModelSheet.{sheetChecks}
 use Rattle.sheets.specs.Holding.{taskOn}
 use Rattle.sheets.specs.LentTables.{tooFew}
 use Rattle.run.specs.Run as run
-use Rattle.run.specs.Run.{plan, noPlan, «open», blocksIn, rowsOf}
+use Rattle.run.specs.Run.{plan, noPlan, «open», blockCount, rowsOf}
 use Rattle.refining.specs.Listing.{listed, cutPlace, rowPlace}
 use Rattle.refining.specs.declared.Ended.{Ended}
 use Rattle.refining.specs.declared.Ended.the-variants as ended
@@ -55,7 +55,7 @@ outcome a cuts rows = record { answer = a; cuts = cuts; rows = rows }
 
 -- a run that is made: its cuts, and for a plan its rows; places past the last one used stay untouched
 unfoldable pub made : Task → run.Outcome → List ℕ → List ℕ → Outcome
-made t o cuts rows = outcome (told t (blocksIn o) (o .answer)) (over (listed cutPlace (o .made)) cuts) (over (listed rowPlace (rowsOf t (o .answer))) rows)
+made t o cuts rows = outcome (told t (blockCount o) (o .answer)) (over (listed cutPlace (o .made)) cuts) (over (listed rowPlace (rowsOf t (o .answer))) rows)
 
 -- a refusal returns only its number and changes nothing lent
 unfoldable pub running : List ℕ → ℕ → List ℕ → List ℕ → Outcome

@@ -1,6 +1,6 @@
 use mathlib.Core.Path.{refl}
 use native.Mathlib.Omega.{arith}
-use Rattle.counts.specs.Counts.{cutValues, Counted}
+use Rattle.counts.specs.Counts.{cutValueCount, Counted}
 use borrow.Author.Needs.{needs}
 use Rattle.counts.proofs.cut_values.Statement.{statement}
 use Rattle.counts.proofs.cut_values.Tie as tie
@@ -44,19 +44,19 @@ enum-told : tie.Need-enum-told
 enum-told c = search needs
 
 returns : tie.Need-returns
-unfolding cutValues
+unfolding cutValueCount
 returns c = let e = c .before .answer .given .1 in rw e refl
 
 returns-2 : tie.Need-returns-2
-unfolding cutValues
+unfolding cutValueCount
 returns-2 c = let e = c .before .answer2 .given .1 in rw e refl
 
 returns-3 : tie.Need-returns-3
-unfolding cutValues
+unfolding cutValueCount
 returns-3 c = let e = c .before .answer3 .given .1 in rw e refl
 
 returns-4 : tie.Need-returns-4
-unfolding cutValues
+unfolding cutValueCount
 returns-4 c = search needs
 
 pub cut-values-spec : {M : Type 1} → statement M

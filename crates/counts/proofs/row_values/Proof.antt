@@ -1,5 +1,5 @@
 use mathlib.Core.Path.{refl}
-use Rattle.counts.specs.Counts.{rowValues, Counted}
+use Rattle.counts.specs.Counts.{rowValueCount, Counted}
 use borrow.Author.Needs.{needs}
 use Rattle.counts.proofs.row_values.Statement.{statement}
 use Rattle.counts.proofs.row_values.Tie as tie
@@ -23,19 +23,19 @@ enum-told-3 : tie.Need-enum-told-3
 enum-told-3 c = search needs
 
 returns : tie.Need-returns
-unfolding rowValues
+unfolding rowValueCount
 returns c = let e = c .before .answer .given .1 in rw e refl
 
 returns-2 : tie.Need-returns-2
-unfolding rowValues
+unfolding rowValueCount
 returns-2 c = search needs
 
 returns-3 : tie.Need-returns-3
-unfolding rowValues
+unfolding rowValueCount
 returns-3 c = search needs
 
 returns-4 : tie.Need-returns-4
-unfolding rowValues
+unfolding rowValueCount
 returns-4 c = search needs
 
 pub row-values-spec : {M : Type 1} → statement M
