@@ -42,7 +42,7 @@ statesIn t bytes = length bytes / columnCount t
 unfoldable pub badStates : Task → List ℕ → Bool
 badStates t bytes =
     not (eqb (length bytes % columnCount t) 0)
-    || (ltb 64 (statesIn t bytes)
+    || (ltb (limits .states) (statesIn t bytes)
     || not (all (length bytes) (λ i. ltb (getD bytes i 0) (sizeOf t (column (i % columnCount t))))))
 
 -- the estimate of state k after the cuts, the mark for "no way"

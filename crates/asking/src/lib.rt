@@ -40,7 +40,7 @@ pub fn judge_states(sizes: &[u8; Model::COLUMNS], columns: usize, states: &[u8])
     if states.len() % columns != 0 {
         return 11;
     }
-    if 64 < states.len() / columns {
+    if Model::STATES < states.len() / columns {
         return 11;
     }
     let mut i: usize = 0;
@@ -55,7 +55,7 @@ pub fn judge_states(sizes: &[u8; Model::COLUMNS], columns: usize, states: &[u8])
 
 // State k of the bytes; places past the columns are 0.
 fn read_state(states: &[u8], columns: usize, k: usize) -> State
-    requires { ⌜ (columns ≤ limits .columns) × (k < 64) × (k * columns + columns ≤ length (now states)) ⌝ }
+    requires { ⌜ (columns ≤ limits .columns) × (k < limits .states) × (k * columns + columns ≤ length (now states)) ⌝ }
     ensures { λ r. ⌜ r ≡ wideState columns (now (states .entry)) k ⌝ }
 {
     let from = k * columns;
@@ -86,7 +86,7 @@ pub fn fill_estimates(
     states: &[u8],
     estimates: &mut [u32],
 )
-    requires { ⌜ (1 ≤ columns) × (columns ≤ limits .columns) × (count < limits .blocks) × (count * 3 ≤ length (now cuts)) × (length (now states) / columns ≤ 64) × (length (now states) / columns ≤ length (now estimates)) × ((i : ℕ) → i < count → getD (now cuts) (i * 3 + 1) 0 < columns) × ((i : ℕ) → i < length (now states) → getD (now states) i 0 < limits .positions) × ((a : ℕ) → a ≤ count → getD (now dist) a 0 / 65536 ≤ limits .«no_way») ⌝ }
+    requires { ⌜ (1 ≤ columns) × (columns ≤ limits .columns) × (count < limits .blocks) × (count * 3 ≤ length (now cuts)) × (length (now states) / columns ≤ limits .states) × (length (now states) / columns ≤ length (now estimates)) × ((i : ℕ) → i < count → getD (now cuts) (i * 3 + 1) 0 < columns) × ((i : ℕ) → i < length (now states) → getD (now states) i 0 < limits .positions) × ((a : ℕ) → a ≤ count → getD (now dist) a 0 / 65536 ≤ limits .«no_way») ⌝ }
     ensures { λ _. ⌜ now (estimates .exit) ≡ over (tab (length (now (states .entry)) / columns) (λ k. costFound (now (dist .entry)) (now (cuts .entry)) count (wideState columns (now (states .entry)) k))) (now (estimates .entry)) ⌝ }
 {
     let asked = states.len() / columns;

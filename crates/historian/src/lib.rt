@@ -1,7 +1,8 @@
 // The run and the question as the historian calls them, a C program that passes byte lists and numbers. Nothing is asked of the caller.
 ghost use mathlib.Core.Path.{_≡_};
-ghost use Prim.Native.Nat.{_+_, _*_, _≤_, _<_};
+ghost use Prim.Native.Nat.{_+_, _-_, _*_, _≤_, _<_};
 ghost use lib.ListN.{length};
+ghost use Rattle.task.specs.Sizes.{limits};
 ghost use Rattle.fields.specs.Judging.{each};
 ghost use Rattle.fields.specs.Places.{puts};
 ghost use Rattle.counts.specs.Counts.{Counted};
@@ -72,7 +73,7 @@ fn run_in(
     cuts: &mut [u8],
     rows: &mut [u8],
 ) -> u64
-    requires { ⌜ (length (now «cut_list») ≡ 765) × (length (now «row_list») ≡ 765) ⌝ }
+    requires { ⌜ (length (now «cut_list») ≡ (limits .blocks - 1) * 3) × (length (now «row_list») ≡ (limits .blocks - 1) * 3) ⌝ }
     ensures { λ r. ⌜ runOutcome r (now (cuts .exit)) (now (rows .exit)) ≡ runEntry (now (sheet .entry)) room (now (cuts .entry)) (now (rows .entry)) ⌝ }
 {
     let m = usable_places(Model::BLOCKS - 1, cuts.len() / 12) * 3;
@@ -85,10 +86,10 @@ fn run_in(
 
 // A question on lists of bytes, with a list of numbers to work in.
 fn ask_in(model: &[u8], sheet: &[u8], states: &[u8], list: &mut [u32], estimates: &mut [u8]) -> u32
-    requires { ⌜ length (now list) ≡ 64 ⌝ }
+    requires { ⌜ length (now list) ≡ limits .states ⌝ }
     ensures { λ r. ⌜ askOutcome r (now (estimates .exit)) ≡ askEntry (now (model .entry)) (now (sheet .entry)) (now (states .entry)) (now (estimates .entry)) ⌝ }
 {
-    let n = usable_places(64, estimates.len() / 4);
+    let n = usable_places(Model::STATES, estimates.len() / 4);
     match question(model, sheet, states, &mut list[..n]) {
         Asked::Estimates(asked) => {
             put_values(list, asked, estimates);
@@ -118,6 +119,6 @@ pub extern "C" fn elhavir_question(
 ) -> u32
     ensures { λ r. ⌜ askOutcome r (now (estimates .exit)) ≡ askEntry (now (model .entry)) (now (sheet .entry)) (now (states .entry)) (now (estimates .entry)) ⌝ }
 {
-    let mut list = [0u32; 64];
+    let mut list = [0u32; Model::STATES];
     ask_in(model, sheet, states, &mut list, estimates)
 }

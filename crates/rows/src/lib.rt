@@ -1,6 +1,6 @@
 // The rows of the change sheet in a lent list of rows: one thin function puts them there from plain numbers, and a run goes through it.
 ghost use mathlib.Core.Path.{_≡_};
-ghost use Prim.Native.Nat.{_+_, _*_, _≤_, _<_};
+ghost use Prim.Native.Nat.{_+_, _-_, _*_, _≤_, _<_};
 ghost use mathlib.Core.List.{List};
 ghost use lib.ListN.{length, getD};
 ghost use Rattle.task.specs.Sizes.{limits};
@@ -90,7 +90,7 @@ fn row_count(answer: Answer) -> usize
 
 // A run for so many places of rows, with a list for their values: whoever puts the rows from it has the run.
 fn run_for(sheet: &[u8], room: u32, places: usize, cuts: &mut [u32], values: &mut [u32]) -> Answer
-    requires { ⌜ length (now values) ≡ 765 ⌝ }
+    requires { ⌜ length (now values) ≡ (limits .blocks - 1) * 3 ⌝ }
     ensures { λ r. ⌜ ((rows : List Row) → length rows ≡ places → outcome r (now (cuts .exit)) (filling rows (now (values .exit)) (rowCount r) .rows) ≡ rowRun (now (sheet .entry)) room (now (cuts .entry)) rows) ⌝ }
 {
     let n = usable_places(Model::BLOCKS - 1, places) * 3;

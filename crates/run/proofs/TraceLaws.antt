@@ -1,5 +1,6 @@
 -- The trace: each hop is the lowest that keeps the distance, and all together are a path of the block's own distance.
 use mathlib.Core.Path.{_≡_, refl, ap, _∙_, subst}
+use mathlib.Core.Logic.{⊎-elim}
 use mathlib.Core.Bool.{Bool, true, false, _&&_}
 use mathlib.Core.List.{List, [], _∷_}
 use mathlib.Core.Option.{Option, none, some}
@@ -12,10 +13,10 @@ use Rattle.task.specs.declared.Step.{Step}
 use Rattle.task.specs.declared.Block.{Block}
 use Rattle.task.specs.Loops.{first, when}
 use Rattle.task.specs.Task.{Task, Tenths, step, block, stepCount, costOf}
-use Rattle.task.proofs.LoopLaws.{and-left, and-right, and-both, first-some, first-none, first-found, when-some, when-none}
-use Rattle.blocks.specs.Blocks.{Blocks}
+use Rattle.task.proofs.LoopLaws.{true-or-false, and-left, and-right, and-both, first-some, first-none, first-found, when-some, when-none}
+use Rattle.blocks.specs.Blocks.{Blocks, blockAt, goalBlock}
 use Rattle.distances.specs.Distances.{Distance, Hop, Table, AtMost, IsDistance, leadsTo, isPath, far, farOf, plus, zeroFar, distances}
-use Rattle.distances.proofs.OrderLaws.{Below, below, at-most-antisym, plus-mono}
+use Rattle.distances.proofs.OrderLaws.{Below, below, zero-at-most, at-most-antisym, plus-mono}
 use Rattle.distances.proofs.LeastLaws.{Arc, first-of, path-cons, below-all, distances-right}
 use Rattle.run.specs.Run.{keeps, nextHop, trace}
 
@@ -114,6 +115,20 @@ module _ (t : Task) (bs : Blocks) where
       go : (hs : List Hop) → isPath t bs a hs ≡ true → far t hs ≡ d → (isPath t bs a [] ≡ true) × (far t [] ≡ d)
       go [] w q = (w, q)
       go (h ∷ hs) w q = let z : suc (far t hs .steps) ≡ d .steps = ap (λ (k : Distance). k .steps) q in absurd (omega arith)
+
+  -- a goal block has cost 0 and 0 steps
+  pub goal-zero : (a : Block) (d : Distance) → a .0 < length bs → goalBlock t (blockAt bs a) ≡ true → farOf (distances t bs) a ≡ some d → d ≡ zeroFar
+  unfolding isPath far
+  goal-zero a d ha g e =
+      let dist : IsDistance t bs a d = rw e at (distances-right t bs a ha) in
+      at-most-antisym (dist .least [] g) (zero-at-most d)
+
+  -- so a block from which the trace goes on is no goal block: it is the first goal block that the trace ends in
+  pub goes-on : (a : Block) (d : Distance) → a .0 < length bs → farOf (distances t bs) a ≡ some d → 0 < d .steps → goalBlock t (blockAt bs a) ≡ false
+  unfolding zeroFar
+  goes-on a d ha e h =
+      ⊎-elim (λ (g : goalBlock t (blockAt bs a) ≡ true). absurd (omega (arith, ap (λ (x : Distance). x .steps) (goal-zero a d ha g e)))) (λ (g : goalBlock t (blockAt bs a) ≡ false). g)
+      (true-or-false (goalBlock t (blockAt bs a)))
 
   pub trace-next : (l : Table) (n : ℕ) (a : Block) (d : Distance) (h : Hop) → farOf l a ≡ some d → nextHop t bs l a d ≡ some h → trace t bs l (suc n) a ≡ h ∷ trace t bs l n (h .to)
   unfolding trace

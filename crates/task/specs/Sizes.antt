@@ -2,4 +2,4 @@
 use Rattle.task.specs.declared.Limits.{Limits}
 
 abbrev pub limits : Limits
-limits = record { columns = 16; positions = 32; steps = 128; blocks = 256; «no_way» = 16777215 }
+limits = record { columns = 16; positions = 32; steps = 128; blocks = 256; states = 64; «no_way» = 16777215 }

@@ -27,6 +27,7 @@ pub struct Limits {
     pub positions: usize,
     pub steps: usize,
     pub blocks: usize,
+    pub states: usize,
     pub no_way: u32,
 }
 
@@ -56,6 +57,9 @@ impl Model {
 
     pub const BLOCKS: usize = 256;
 
+    // In one question.
+    pub const STATES: usize = 64;
+
     pub const NO_WAY: u32 = 16777215;
 
     // The limits, for the definitions to be held to.
@@ -67,6 +71,7 @@ impl Model {
             positions: Model::POSITIONS,
             steps: Model::STEPS,
             blocks: Model::BLOCKS,
+            states: Model::STATES,
             no_way: Model::NO_WAY,
         }
     }

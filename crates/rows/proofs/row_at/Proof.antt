@@ -1,3 +1,4 @@
+use mathlib.Core.Path.{refl}
 use Rattle.rows.specs.Rows.{rowIn}
 use borrow.Author.Needs.{needs}
 use Rattle.rows.proofs.row_at.Statement.{statement}
@@ -37,7 +38,7 @@ shared-slice-read-t16 c = search needs
 
 returns : tie.Need-returns
 unfolding rowIn
-returns c = search needs
+returns c = refl
 
 pub row-at-spec : {M : Type 1} → statement M
 row-at-spec =

@@ -24,15 +24,15 @@ returns c = let e = c .before .answer .given .1 in rw e refl
 
 returns-2 : tie.Need-returns-2
 unfolding rowCount
-returns-2 c = search needs
+returns-2 c = let e = c .enum-told .given .1 in rw e refl
 
 returns-3 : tie.Need-returns-3
 unfolding rowCount
-returns-3 c = search needs
+returns-3 c = let e = c .enum-told2 .given .1 in rw e refl
 
 returns-4 : tie.Need-returns-4
 unfolding rowCount
-returns-4 c = search needs
+returns-4 c = let e = c .enum-told3 .given .1 in rw e refl
 
 pub row-count-spec : {M : Type 1} → statement M
 row-count-spec =
