@@ -3,7 +3,8 @@
 -- defines it, and no plan from that state costs less. Sheets written and read back give the same model and cuts, and accepted bytes come back the same."
 -- For whoever knows only the contracts: of `run` and `question`, and of `elhavir_run` and `elhavir_question`, whose theorems begin with `entry-`. The
 -- sheets are in `RoundTrips`. The task is that of `task/specs/Task`: `IsPlan` is "can be carried out from the start and reaches the goal".
-use Prim.Native.Nat.{ℕ, _+_, _<_}
+-- And 01's step 4: what an "open" answer's figure is, and that no plan undercuts it.
+use Prim.Native.Nat.{ℕ, _+_, _≤_, _<_}
 use native.Mathlib.Omega.{arith}
 use mathlib.Core.Path.{_≡_, refl, sym, ap, _∙_, subst⁻¹}
 use mathlib.Core.Bool.{true, false}
@@ -12,7 +13,7 @@ use mathlib.Core.Option.{some, Option·map}
 use lib.ListN.{length, getD}
 use Rattle.task.specs.declared.Step.{Step}
 use Rattle.task.specs.Loops.{over}
-use Rattle.task.specs.Task.{Task, State, columnCount, stepCount, costOf, canTake, taken, reaches, costs}
+use Rattle.task.specs.Task.{Task, State, columnCount, stepCount, costOf, start, canTake, taken, reaches, costs, IsPlan}
 use Rattle.task.proofs.LoopLaws.{tab-at, tab-length}
 use Rattle.distances.specs.Distances.{NoMore, estimate}
 use Rattle.distances.proofs.EstimateLaws.{EstimateIs}
@@ -21,7 +22,7 @@ use Rattle.fields.proofs.JudgingLaws.{neither, passed, refusal-append}
 use Rattle.sheets.specs.Holding.{taskOn}
 use Rattle.cut_sheets.specs.CutSheet.{cutSheetChecks, cutsOf}
 use Rattle.run.proofs.RunLaws.{NoPlan as NonePlans}
-use Rattle.running.specs.declared.Answer.the-variants.{Plan, NoPlan}
+use Rattle.running.specs.declared.Answer.the-variants.{Plan, NoPlan, Open}
 use Rattle.running.specs.Running.{number, outcome, running}
 use Rattle.run_laws.proofs.Answers as said
 use Rattle.asking.specs.declared.Asked.the-variants.{Estimates}
@@ -29,9 +30,10 @@ use Rattle.asking.specs.Question as question
 use Rattle.asking.specs.Question.{stateIn, statesIn, badStates, estimateAt, estimatesOf, valued, asking}
 use Rattle.question_laws.proofs.Estimates as estimates
 use Rattle.historian.specs.Entries.{bytesOf, fewPlaces, runOutcome, runEntry, askChecks, AskOutcome, askOutcome, askEntry}
-use Rattle.demands.proofs.Numbers.{kind, valueOn, value-back}
+use Rattle.demands.proofs.Numbers.{kind, value, valueOn, value-back}
 use Rattle.demands.proofs.Refusals.{elhavir-question-judged}
 use Rattle.demands.proofs.Entry as entry
+use Rattle.demands.proofs.Cuts as cut
 
 -- ---- "A plan can be carried out from the start, reaches the goal, and no plan is cheaper", and its rows are in the list
 module _ (s : List ℕ) (room : ℕ) (cuts rows : List ℕ) {c l : List ℕ} where
@@ -49,6 +51,32 @@ module _ (s : List ℕ) (room : ℕ) (cuts rows : List ℕ) {r : ℕ} {c l : Lis
 
   pub entry-no-plan-right : kind r ≡ 2 → entry.NoPlanTold (taskOn s) r rows l
   entry-no-plan-right k = entry.entry-says s room cuts rows done (λ z. omega arith) .tells .no-plan-right k
+
+-- ---- 01, step 4: "open" with the start's estimate, which is that after the cuts made. It is a lower bound: no plan costs less
+
+-- an open answer refuses nothing
+pub open-kept : (e b : ℕ) → number (Open e b) ≡ 0
+unfolding number
+open-kept e b = refl
+
+module _ (s : List ℕ) (room : ℕ) (cuts rows : List ℕ) {e b : ℕ} {c l : List ℕ} (done : outcome (Open e b) c l ≡ running s room cuts rows) where
+  pub open-estimate : estimate (taskOn s) (cut.made s room cuts rows done (open-kept e b)) (start (taskOn s)) ≡ some e
+  open-estimate = said.open-estimate s room cuts rows (cut.ran s room cuts rows done (open-kept e b)) e b refl
+
+  pub open-below : (ss : List Step) → IsPlan (taskOn s) ss → e ≤ costs (taskOn s) ss
+  open-below = said.open-below s room cuts rows (cut.ran s room cuts rows done (open-kept e b)) e b refl
+
+module _ (s : List ℕ) (room : ℕ) (cuts rows : List ℕ) {r : ℕ} {c l : List ℕ} (done : runOutcome r c l ≡ runEntry s room cuts rows) (opened : kind r ≡ 3) where
+  pub entry-open-kept : kind r ≡ 0 → ⊥
+  entry-open-kept z = omega arith
+
+  pub entry-open-estimate : estimate (taskOn s) (cut.entry-made s room cuts rows done entry-open-kept) (start (taskOn s)) ≡ some (value r)
+  entry-open-estimate = cut.had s room cuts rows done entry-open-kept .tells .open-right opened .estimated
+
+  pub entry-open-below : (ss : List Step) → IsPlan (taskOn s) ss → value r ≤ costs (taskOn s) ss
+  entry-open-below =
+      let m = cut.had s room cuts rows done entry-open-kept in
+      said.none-below (taskOn s) (m .model) (m .made) (m .ok) (value r) entry-open-estimate
 
 -- ---- "For any accepted cut list, a state's estimate is the abstract distance as 01 defines it, and no plan from that state costs less"
 module _ (model s states est : List ℕ) {n : ℕ} {next : List ℕ} (done : question.outcome (Estimates n) next ≡ asking model s states est) where

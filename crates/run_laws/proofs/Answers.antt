@@ -11,13 +11,14 @@ use lib.ListN.{length}
 use borrow.Author.Tests.{eq-eqb}
 use Rattle.task.specs.declared.Step.{Step}
 use Rattle.task.specs.Loops.{over}
-use Rattle.task.specs.Task.{Task, State, Accepted, stateCount, isState, start, costs}
+use Rattle.task.specs.Task.{Task, State, Tenths, Accepted, stateCount, isState, start, costs, IsPlan}
 use Rattle.task.proofs.LoopLaws.{and-left, and-right, and-both}
+use Rattle.task.proofs.TaskLaws.{start-state}
 use Rattle.blocks.specs.declared.Cut.{Cut}
 use Rattle.blocks.specs.Blocks.{Blocks, whole, cutBlock, cutOk, cutsOk, accepted}
 use Rattle.blocks.proofs.FollowLaws.{accepted-less}
-use Rattle.distances.specs.Distances.{NoMore, estimate}
-use Rattle.distances.proofs.EstimateLaws.{estimates-never-fall}
+use Rattle.distances.specs.Distances.{NoMore, number as atMost, estimate}
+use Rattle.distances.proofs.EstimateLaws.{estimate-below, estimates-never-fall}
 use Rattle.fields.specs.Judging.{refusal}
 use Rattle.fields.proofs.JudgingLaws.{neither, refusal-append}
 use Rattle.sheets.specs.ModelSheet.{sheetChecks, judgeSheet}
@@ -75,6 +76,14 @@ none-falls t v made ok before after c q x h =
     let w : accepted t ((before ++ (c ∷ [])) ++ after) ≡ true = rw (append-assoc before (c ∷ []) after) (rw q at ok) in
     let l = accepted-less t v before c (accepted-front t (before ++ (c ∷ [])) after w) in
     estimates-never-fall t v before (l .0) c (l .1) x h
+
+-- no plan costs less than the start's estimate after accepted cuts
+pub none-below : (t : Task) → Accepted t → (cs : List Cut) → accepted t cs ≡ true → (e : Tenths) → estimate t cs (start t) ≡ some e → (ss : List Step) → IsPlan t ss → e ≤ costs t ss
+unfolding IsPlan
+none-below t v cs ok e q ss h = at-most (rw q at (estimate-below t v cs ok ss (start t) (start-state t v) h))
+  where
+    at-most : {a b : Tenths} → NoMore (some a) (some b) → a ≤ b
+    at-most (atMost k) = k
 
 module _ (s : List ℕ) (room : ℕ) (cuts rows₀ : List ℕ) where
   abbrev t : Task
@@ -136,6 +145,13 @@ module _ (s : List ℕ) (room : ℕ) (cuts rows₀ : List ℕ) where
     -- an open run has filled its room
     pub open-is-full : (e b : ℕ) → a ≡ Open e b → length (r .made) + 1 ≡ room
     open-is-full e b q = let z = subst (Says t room (r .made) rows₀ rows′) q (r .says) in sym (z .0) ∙ z .2
+
+    -- its figure is the start's estimate after the cuts made, and no plan costs less
+    pub open-estimate : (e b : ℕ) → a ≡ Open e b → estimate t (r .made) (start t) ≡ some e
+    open-estimate e b q = let z = subst (Says t room (r .made) rows₀ rows′) q (r .says) in z .4
+
+    pub open-below : (e b : ℕ) → a ≡ Open e b → (ss : List Step) → IsPlan t ss → e ≤ costs t ss
+    open-below e b q = none-below t (r .model) (r .made) (r .ok) e (open-estimate e b q)
 
     pub never-falls : (before after : List Cut) (c : Cut) → r .made ≡ before ++ (c ∷ after) → (x : State) → isState t x ≡ true → NoMore (estimate t before x) (estimate t (before ++ (c ∷ [])) x)
     never-falls = none-falls t (r .model) (r .made) (r .ok)
