@@ -147,31 +147,35 @@ module _ (s : List ℕ) (room : ℕ) (cuts rows₀ : List ℕ) {r : ℕ} {cuts�
   unfolding entryChecks
   room-inside z = inside-means 1 256 room (passed 7 (outside 1 256 room) _ (λ y. omega arith) (neither (refusal (sheetChecks s)) _ (sym (refusal-append (sheetChecks s) _) ∙ z) .1) .0)
 
+  -- where no check applies, the run is made
+  pub entry-ran : R ≡ 0 → Made
+  entry-ran z =
+      let v = accepted-model z in
+      let f = room-inside z in
+      let o = run.run t room in
+      let w = run-right t v room (f .0) in
+      let fit : length (o .made) + 1 ≤ room = omega (arith, w .fits) in
+      let e : r ≡ answerNumber (told t (length (o .made) + 1) (o .answer)) = ap (λ (x : RunOutcome). x .answer) (done ∙ entry-made s room cuts rows₀ z) ∙ (unfold madeBytes run.blockCount in refl) in
+      let l : rows′ ≡ over (bytesOf (listed rowPlace (rowsOf t (o .answer)))) rows₀ = ap (λ (x : RunOutcome). x .rows) (done ∙ entry-made s room cuts rows₀ z) ∙ (unfold madeBytes in refl) in
+      record {
+        model = v;
+        some = f .0;
+        few = f .1;
+        made = o .made;
+        listed-cuts = ap (λ (x : RunOutcome). x .cuts) (done ∙ entry-made s room cuts rows₀ z) ∙ (unfold madeBytes in refl);
+        ok = w .made;
+        flaws = one-per-flaw t room o w;
+        within = fit;
+        tells = rw (e, l) (tells t v room (f .1) (o .made) (w .made) fit rows₀ (o .answer) (w .right) (plan-short t v room (f .0)));
+      }
+
   -- any other kind
   pub entry-says : (kind r ≡ 0 → ⊥) → Made
   entry-says k = split (ℕ-discrete R 0)
     where
       split : Dec (R ≡ 0) → Made
       split (no z) = absurd (k (kind-refused z))
-      split (yes z) =
-          let v = accepted-model z in
-          let f = room-inside z in
-          let o = run.run t room in
-          let w = run-right t v room (f .0) in
-          let fit : length (o .made) + 1 ≤ room = omega (arith, w .fits) in
-          let e : r ≡ answerNumber (told t (length (o .made) + 1) (o .answer)) = ap (λ (x : RunOutcome). x .answer) (done ∙ entry-made s room cuts rows₀ z) ∙ (unfold madeBytes run.blockCount in refl) in
-          let l : rows′ ≡ over (bytesOf (listed rowPlace (rowsOf t (o .answer)))) rows₀ = ap (λ (x : RunOutcome). x .rows) (done ∙ entry-made s room cuts rows₀ z) ∙ (unfold madeBytes in refl) in
-          record {
-            model = v;
-            some = f .0;
-            few = f .1;
-            made = o .made;
-            listed-cuts = ap (λ (x : RunOutcome). x .cuts) (done ∙ entry-made s room cuts rows₀ z) ∙ (unfold madeBytes in refl);
-            ok = w .made;
-            flaws = one-per-flaw t room o w;
-            within = fit;
-            tells = rw (e, l) (tells t v room (f .1) (o .made) (w .made) fit rows₀ (o .answer) (w .right) (plan-short t v room (f .0)));
-          }
+      split (yes z) = entry-ran z
 
   pub never-falls : (m : Made) (before after : List Cut) (c : Cut) → m .made ≡ before ++ (c ∷ after) → (x : State) → isState t x ≡ true → NoMore (estimate t before x) (estimate t (before ++ (c ∷ [])) x)
   never-falls m = none-falls t (m .model) (m .made) (m .ok)

@@ -7,3 +7,4 @@ pub mod Answers
 pub mod RoundTrips
 pub mod Cuts
 pub mod Rows
+pub mod Untouched
