@@ -1,4 +1,5 @@
--- The examples that 01 marks P, as one statement over one list, and after them models on which a wrong reading of the rules would show.
+-- The examples that 01 marks P, as one statement over one list, and after them models on which a wrong reading of the rules would show. A model is
+-- given as 01 gives it, as columns and steps or as a sheet's bytes, and an answer in 01's values: cost, steps and blocks.
 use mathlib.Core.Path.{_≡_, refl}
 use mathlib.Core.List.{List, [], _∷_, _++_, map}
 use mathlib.Core.Option.{Option, none, some, Option·map}
@@ -6,12 +7,21 @@ use Prim.Native.Nat.{ℕ}
 use Rattle.task.specs.Loops as loops
 use Rattle.task.specs.Task as task
 use Rattle.task.specs.Task.{Task, ColumnEntry, Change, StepEntry, State, Tenths, column, position, step, block}
+use Rattle.task.specs.Tables.{marked}
+use Rattle.fields.specs.Bits as bits
+use Rattle.fields.specs.Judging as judging
+use Rattle.fields.specs.Packing as packing
+use Rattle.sheets.specs.ModelSheet as sheet
+use Rattle.sheets.specs.Holding.{columnSaid, changeSaid, stepSaid, taskIn, taskOn}
 use Rattle.blocks.specs.declared.Cut.{Cut}
 use Rattle.blocks.specs.Blocks as blocks
 use Rattle.distances.specs.Distances as distances
 use Rattle.run.specs.declared.Row.{Row}
 use Rattle.run.specs.Run as run
-use Rattle.run.specs.Run.{Outcome, Answer, plan, noPlan, «open», rowsOf}
+use Rattle.run.specs.Run.{blockCount, rowsOf}
+use Rattle.running.specs.declared.Answer.{Answer}
+use Rattle.running.specs.declared.Answer.the-variants.{Plan, NoPlan, Open}
+use Rattle.running.specs.Running.{told}
 
 -- ---- how the examples are written down
 
@@ -37,36 +47,63 @@ cut b j w = record { block = block b; column = column j; wanted = w }
 abbrev row : ℕ → ℕ → ℕ → Row
 row s n l = record { step = step s; tenths = n; left = l }
 
+-- how a model is given: as a task, or as a sheet's bytes
+pub data Given : Type 0 where
+  drawn : Task → Given
+  bytes : List ℕ → Given
+
+-- the refusal number of what is given, 0 for none
+pub refusedOf : Given → ℕ
+refusedOf (drawn t) = 0
+refusedOf (bytes s) = sheet.judgeSheet s
+
+-- the task that it is
+pub taskOf : Given → Task
+taskOf (drawn t) = t
+taskOf (bytes s) = taskOn s
+
 -- an example: what is asked, a model, a room and states whose estimates are wanted after the run's cuts;
--- and what is told, the answer, the cuts, the rows and the estimates
+-- and what is told: the refusal number, the task, the answer, the cuts, the rows, in which a plan's steps stand, and the estimates
 pub record Example : Type 0 where
-  pub model : Task
+  pub given : Given
   pub room : ℕ
   pub states : List State
-  pub outcome : Outcome
+  pub refused : ℕ
+  pub model : Task
+  pub answer : Answer
+  pub cuts : List Cut
   pub rows : List Row
   pub estimates : List (Option Tenths)
 
+abbrev example : List (List ℕ) → List (Option Tenths) → Given → Task → ℕ → Answer → List Cut → List Row → Example
+example xs es g t n a cs rs =
+    record { given = g; room = n; states = map (map position) xs; refused = 0; model = t; answer = a; cuts = cs; rows = rs; estimates = es }
+
 abbrev asking : List (List ℕ) → List (Option Tenths) → Task → ℕ → Answer → List Cut → List Row → Example
-asking xs es t n a cs rs = record { model = t; room = n; states = map (map position) xs; outcome = record { answer = a; made = cs }; rows = rs; estimates = es }
+asking xs es t = example xs es (drawn t) t
 
 abbrev running : Task → ℕ → Answer → List Cut → List Row → Example
 running = asking [] []
 
-abbrev steps : List ℕ → Answer
-steps l = plan (map step l)
+-- bytes, and the task that they hold
+abbrev holding : List ℕ → Task → ℕ → Answer → List Cut → List Row → Example
+holding s = example [] [] (bytes s)
 
 -- the same example, with what the definitions tell
 pub answered : Example → Example
 answered e =
-    let o = run.run (e .model) (e .room) in
+    let t = taskOf (e .given) in
+    let o = run.run t (e .room) in
     record {
-      model = e .model;
+      given = e .given;
       room = e .room;
       states = e .states;
-      outcome = o;
-      rows = rowsOf (e .model) (o .answer);
-      estimates = map (distances.estimate (e .model) (o .made)) (e .states);
+      refused = refusedOf (e .given);
+      model = t;
+      answer = told t (blockCount o) (o .answer);
+      cuts = o .made;
+      rows = rowsOf t (o .answer);
+      estimates = map (distances.estimate t (o .made)) (e .states);
     }
 
 -- ---- the small re-thread
@@ -181,28 +218,30 @@ fewerSteps = record {
 
 pub list : List Example
 list =
-    running rethread 1 («open» 0) [] []
-    ∷ running rethread 2 («open» 50) (c1 ∷ []) []
-    ∷ running rethread 3 («open» 70) (c1 ∷ c2 ∷ []) []
-    ∷ running rethread 4 («open» 70) (c1 ∷ c2 ∷ c3 ∷ []) []
+    running rethread 1 (Open 0 1) [] []
+    ∷ running rethread 2 (Open 50 2) (c1 ∷ []) []
+    ∷ running rethread 3 (Open 70 3) (c1 ∷ c2 ∷ []) []
+    ∷ running rethread 4 (Open 70 4) (c1 ∷ c2 ∷ c3 ∷ []) []
     ∷ asking ((1 ∷ 0 ∷ []) ∷ (0 ∷ 1 ∷ []) ∷ (0 ∷ 2 ∷ []) ∷ []) (some 110 ∷ some 70 ∷ some 0 ∷ [])
-    rethread 5 (steps (2 ∷ 0 ∷ 3 ∷ [])) (c1 ∷ c2 ∷ c3 ∷ c4 ∷ []) (row 2 30 70 ∷ row 0 20 50 ∷ row 3 50 0 ∷ [])
-    ∷ running withoutTape 5 noPlan (c1 ∷ c2 ∷ c3 ∷ c4 ∷ []) []
-    ∷ running withoutTape 4 («open» 70) (c1 ∷ c2 ∷ c3 ∷ []) []
-    ∷ running free 2 (steps (1 ∷ [])) (cut 0 0 2 ∷ []) (row 1 0 0 ∷ [])
-    ∷ running (one none) 1 (steps []) [] []
-    ∷ running (one (some 0)) 1 (steps []) [] []
-    ∷ running chain 8 (steps (0 ∷ 1 ∷ 2 ∷ 3 ∷ 0 ∷ 1 ∷ 2 ∷ [])) (chainCuts ++ (cut 0 1 2 ∷ [])) chainRows
-    ∷ running chain 7 («open» 196605) chainCuts []
-    ∷ running stepFirst 6 (steps (1 ∷ 2 ∷ 0 ∷ [])) (cut 0 0 2 ∷ cut 1 1 1 ∷ cut 2 2 2 ∷ cut 1 2 2 ∷ cut 0 2 2 ∷ []) (row 1 1 2 ∷ row 2 1 1 ∷ row 0 1 0 ∷ [])
-    ∷ running blockNext 5 (steps (0 ∷ 2 ∷ [])) (cut 0 0 2 ∷ cut 1 1 2 ∷ cut 0 1 2 ∷ cut 1 1 4 ∷ []) (row 0 1 1 ∷ row 2 1 0 ∷ [])
-    ∷ running within 6 (steps (3 ∷ 0 ∷ 4 ∷ [])) (cut 0 1 2 ∷ cut 0 0 2 ∷ cut 0 1 4 ∷ cut 1 0 1 ∷ cut 1 0 4 ∷ []) (row 3 1 4 ∷ row 0 1 3 ∷ row 4 3 0 ∷ [])
-    ∷ running fewerSteps 3 (steps (2 ∷ [])) (cut 0 0 4 ∷ cut 0 0 2 ∷ []) (row 2 3 0 ∷ [])
+    rethread 5 (Plan 100 3 5) (c1 ∷ c2 ∷ c3 ∷ c4 ∷ []) (row 2 30 70 ∷ row 0 20 50 ∷ row 3 50 0 ∷ [])
+    ∷ running withoutTape 5 (NoPlan 5) (c1 ∷ c2 ∷ c3 ∷ c4 ∷ []) []
+    ∷ running withoutTape 4 (Open 70 4) (c1 ∷ c2 ∷ c3 ∷ []) []
+    ∷ running free 2 (Plan 0 1 2) (cut 0 0 2 ∷ []) (row 1 0 0 ∷ [])
+    ∷ holding (0x10 ∷ 0x80 ∷ 0x02 ∷ 0x00 ∷ 0x00 ∷ []) (one none) 1 (Plan 0 0 1) [] []
+    ∷ holding (0x10 ∷ 0x80 ∷ 0x02 ∷ 0x00 ∷ 0x40 ∷ []) (one (some 0)) 1 (Plan 0 0 1) [] []
+    ∷ running chain 8 (Plan 458745 7 8) (chainCuts ++ (cut 0 1 2 ∷ [])) chainRows
+    ∷ running chain 7 (Open 196605 7) chainCuts []
+    ∷ running stepFirst 6 (Plan 3 3 6) (cut 0 0 2 ∷ cut 1 1 1 ∷ cut 2 2 2 ∷ cut 1 2 2 ∷ cut 0 2 2 ∷ []) (row 1 1 2 ∷ row 2 1 1 ∷ row 0 1 0 ∷ [])
+    ∷ running blockNext 5 (Plan 2 2 5) (cut 0 0 2 ∷ cut 1 1 2 ∷ cut 0 1 2 ∷ cut 1 1 4 ∷ []) (row 0 1 1 ∷ row 2 1 0 ∷ [])
+    ∷ running within 6 (Plan 5 3 6) (cut 0 1 2 ∷ cut 0 0 2 ∷ cut 0 1 4 ∷ cut 1 0 1 ∷ cut 1 0 4 ∷ []) (row 3 1 4 ∷ row 0 1 3 ∷ row 4 3 0 ∷ [])
+    ∷ running fewerSteps 3 (Plan 3 1 3) (cut 0 0 4 ∷ cut 0 0 2 ∷ []) (row 2 3 0 ∷ [])
     ∷ []
 
 pub examples : map answered list ≡ list
-unfolding answered list
-    loops.all loops.first loops.tab
+unfolding answered list refusedOf taskOf told
+    sheet.judgeSheet sheet.sheetChecks sheet.entries sheet.fieldsPart sheet.headerPart sheet.columnPart sheet.marksPart sheet.stepPart sheet.fillPart sheet.modelBits sheet.columnOn sheet.costOn sheet.marksOn
+    sheet.sheetWith sheet.ofSheet judging.outside judging.checksOf judging._then_ judging.refusal judging.judged judging.each packing.bytesFor bits.bitAt bits.fieldAt
+    columnSaid changeSaid stepSaid taskIn taskOn marked loops.all loops.first loops.tab
     task.columnCount task.stepCount task.sizeOf task.startAt task.goalAt task.costOf task.changeAt task.needAt task.effectAt task.eachColumn task.perColumn
     task.at task.meets task.changed task.start task.canTake task.taken task.isGoal task.costs
     blocks.holds blocks.only blocks.every blocks.common blocks.without blocks.isEmpty blocks.setAt blocks.blockAt blocks.leadsAt blocks.goalIn blocks.withSet
@@ -210,5 +249,5 @@ unfolding answered list
     distances.leadsTo distances.plus distances.zeroFar distances.nearer distances.pick distances.least distances.via distances.farOf distances.onward distances.better
     distances.round distances.rounds distances.distances distances.stateFar distances.estimate
     run.keeps run.nextHop run.trace run.wantedAt run.allowed run.backAt run.goalWanted run.needWanted run.backWanted run.walk run.cutColumn run.cutFor
-    run.lookWalk run.lookFrom run.look run.cutOf run.endOf run.refine run.run run.rows run.rowsOf
+    run.lookWalk run.lookFrom run.look run.cutOf run.endOf run.refine run.run run.rows run.rowsOf run.blockCount
 examples = refl
