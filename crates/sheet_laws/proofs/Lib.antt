@@ -6,3 +6,4 @@ pub mod Examples
 pub mod Refusals
 pub mod SameModel
 pub mod Given
+pub mod FirstPlaces
