@@ -1,17 +1,20 @@
 -- 01, "What the contracts have to determine": for each input, refusals too, a contract leaves one possible result and one possible content of the
 -- lent tables. Each theorem takes the contract's equation twice, for two outcomes that it permits, and shows that they are equal.
-use Prim.Native.Nat.{ℕ}
+use Prim.Native.Nat.{ℕ, _*_}
 use mathlib.Core.Path.{_≡_, sym, ap, _∙_}
 use mathlib.Core.List.{List}
+use lib.ListN.{take}
 use Rattle.sheets.specs.LentTables.{ofTables}
 use Rattle.reading.specs.declared.ModelRead.{ModelRead}
 use Rattle.reading.specs.Reading as reading
 use Rattle.writing.specs.declared.write.SheetWritten.{SheetWritten}
 use Rattle.writing.specs.Writing as writing
+use Rattle.sheet_laws.proofs.FirstPlaces as tables
 use Rattle.cut_reading.specs.declared.CutsRebuilt.{CutsRebuilt}
 use Rattle.cut_reading.specs.Rebuilding as rebuilding
 use Rattle.cut_writing.specs.declared.CutsWritten.{CutsWritten}
 use Rattle.cut_writing.specs.CutWriting as cutWriting
+use Rattle.cut_laws.proofs.FirstPlaces as cutTables
 use Rattle.asking.specs.declared.Asked.{Asked}
 use Rattle.asking.specs.Question as question
 use Rattle.running.specs.declared.Answer.{Answer}
@@ -97,3 +100,25 @@ pub elhavir-question-one : (model sheet states estimates : List ℕ) {r r′ : �
 elhavir-question-one model sheet states estimates p q =
     let e = p ∙ sym q in
     (ap (λ (o : entries.AskOutcome). o .answer) e, ap (λ (o : entries.AskOutcome). o .estimates) e)
+
+-- ---- 01, "Refusal numbers": "Input places beyond a writer's counts are not read." Tables that agree on the first places, as many as the counts say, leave the
+-- same one outcome, refusals too. They agree when `take` gives the same of both, so that one ends before these places where the other does.
+
+-- write_model
+pub write-model-reads : (columns steps : ℕ) (frame frame′ costs costs′ marks marks′ sheet : List ℕ) {r r′ : SheetWritten} {s s′ : List ℕ}
+    → take (columns * 3) frame ≡ take (columns * 3) frame′
+    → take steps costs ≡ take steps costs′
+    → take (steps * (columns * 2)) marks ≡ take (steps * (columns * 2)) marks′
+    → writing.outcome r s ≡ writing.writing (ofTables columns steps frame costs marks) sheet
+    → writing.outcome r′ s′ ≡ writing.writing (ofTables columns steps frame′ costs′ marks′) sheet
+    → (r ≡ r′) × (s ≡ s′)
+write-model-reads columns steps frame frame′ costs costs′ marks marks′ sheet f c k p q =
+    write-model-one columns steps frame′ costs′ marks′ sheet (p ∙ tables.first-places columns steps frame frame′ costs costs′ marks marks′ f c k sheet) q
+
+-- write_cuts
+pub write-cuts-reads : (model : List ℕ) (count : ℕ) (cuts cuts′ sheet : List ℕ) {r r′ : CutsWritten} {s s′ : List ℕ}
+    → take (count * 3) cuts ≡ take (count * 3) cuts′
+    → cutWriting.outcome r s ≡ cutWriting.writingCuts model count cuts sheet
+    → cutWriting.outcome r′ s′ ≡ cutWriting.writingCuts model count cuts′ sheet
+    → (r ≡ r′) × (s ≡ s′)
+write-cuts-reads model count cuts cuts′ sheet e p q = write-cuts-one model count cuts′ sheet (p ∙ cutTables.first-places model count cuts cuts′ e sheet) q
