@@ -4,6 +4,7 @@ use mathlib.Core.Logic.{⊎-elim}
 use mathlib.Core.Bool.{Bool, true, false, not, _&&_, and-false, and-true, false≢true}
 use mathlib.Core.List.{List}
 use Prim.Native.Nat.{ℕ, zero, suc, _+_, _*_, _/_, _%_, _<_, _≤_}
+use native.Mathlib.Nat.{zero-add}
 use native.Mathlib.Numerals.{add-one}
 use native.Mathlib.Omega.{arith}
 use lib.Bits.{bitAnd}
@@ -13,7 +14,7 @@ use Rattle.task.specs.Loops.{all}
 use Rattle.task.proofs.LoopLaws.{below-suc, true-or-false, and-left, all-at, all-intro, all-false, all-fails}
 use Rattle.blocks.specs.Blocks.{common, isEmpty}
 use Rattle.blocks.specs.Flat.{past, rowOf}
-use Rattle.blocks.specs.Masks.{lies, passes, leadsBy}
+use Rattle.blocks.specs.Masks.{lies, allLie, passes, leadsBy}
 use Rattle.arcs.specs.Arcs.{fitsIn, keeps, parted, keptMeet}
 use Rattle.arcs.specs.Words.{wordOf, bitAt, meetsIn, keptPart, keptWord, arcWord, told, toldIn, wideIn, Able, Met, Opened, Narrow}
 use Rattle.arcs.proofs.WordLaws.{word-and, word-same, word-told}
@@ -36,7 +37,7 @@ turned false false c = refl
 
 lead-split : (columns : ℕ) (needs lands sets : List ℕ) (s a b : ℕ)
     → leadsBy columns needs lands sets s a b ≡ (fitsIn columns lands sets s b && (fitsIn columns needs sets s a && keptMeet columns lands sets s b a))
-unfolding leadsBy passes fitsIn keptMeet keeps parted
+unfolding leadsBy passes fitsIn allLie keptMeet keeps parted
 lead-split columns needs lands sets s a b =
     all-and (λ j. lies (past needs (rowOf s) j) (past sets (rowOf a) j) && lies (past lands (rowOf s) j) (past sets (rowOf b) j))
     (λ j. not (isEmpty (past lands (rowOf s) j) && isEmpty (common (past sets (rowOf a) j) (past sets (rowOf b) j)))) columns
@@ -95,10 +96,11 @@ module _ (columns used : ℕ) (lands sets : List ℕ) (b : ℕ) (M : List ℕ) (
   module _ (has : ℕ → Bool) (O : List ℕ) (o : Opened used has O) (a : ℕ) (ha : a / 32 < used) (open-is : has a ≡ true) where
     -- in a wide column an open block is not apart
     wide-meets : (j : ℕ) → j < columns → wideIn used M O j ≡ true → parted sets b a j ≡ false
-    unfolding wideIn lies common
+    unfolding wideIn allLie lies common past
     wide-meets j h t =
         let w = a / 32 in
-        let e : bitAnd (getD M (j * 8 + w) 0) (getD O w 0) ≡ getD O w 0 = eqb-true _ _ (all-at used _ t w ha) in
+        let l : lies (past O 0 w) (past M (j * 8) w) ≡ true = all-at used _ t w ha in
+        let e : bitAnd (getD M (j * 8 + w) 0) (getD O w 0) ≡ getD O w 0 = eqb-true _ _ (rw (zero-add w) at l) in
         let f : wordOf (λ c. meetsIn sets (past sets (rowOf b) j) j c && has c) w ≡ wordOf has w = sym (word-and _ _ w) ∙ ap₂ bitAnd (sym (met .each j w h ha)) (sym (o .each w ha)) ∙ e ∙ o .each w ha in
         let g : (meetsIn sets (past sets (rowOf b) j) j a && has a) ≡ has a = sym (word-told (λ c. meetsIn sets (past sets (rowOf b) j) j c && has c) a) ∙ ap (λ (x : ℕ). bitAt x (a % 32)) f ∙ word-told has a in
         not-apart sets a b j (and-left _ (has a) (g ∙ open-is))

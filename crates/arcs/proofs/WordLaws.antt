@@ -19,7 +19,7 @@ use Rattle.task.specs.Loops.{all}
 use Rattle.task.proofs.LoopLaws.{below-suc, true-or-false}
 use Rattle.blocks.specs.Blocks.{common, isEmpty}
 use Rattle.blocks.specs.Flat.{past, rowOf}
-use Rattle.blocks.specs.Masks.{lies}
+use Rattle.blocks.specs.Masks.{lies, allLie}
 use Rattle.blocks.proofs.PartLaws.{same-or-not}
 use Rattle.arcs.specs.Arcs.{fitsIn}
 use Rattle.arcs.specs.Words.{bitsBelow, nth, wordOf, bitAt, needIn, meetsIn, heldIn, Able, RowAble, Met, RowMet, wideIn, Listed, Narrow}
@@ -182,11 +182,11 @@ filled-first g i v D h l e = below-more (λ a. getD (set D i v) a 0 ≡ g a) i (
 -- the needs of a step, column by column
 module _ (needs sets : List ℕ) (s w : ℕ) where
   pub fits-none : 4294967295 ≡ wordOf (fitsIn 0 needs sets s) w
-  unfolding fitsIn all
+  unfolding fitsIn allLie all
   fits-none = sym (word-all _ w (λ a. refl))
 
   pub fits-more : (j v r : ℕ) → v ≡ wordOf (fitsIn j needs sets s) w → r ≡ bitAnd v (wordOf (needIn sets (past needs (rowOf s) j) j) w) → r ≡ wordOf (fitsIn (j + 1) needs sets s) w
-  unfolding fitsIn all needIn
+  unfolding fitsIn allLie all needIn
   fits-more j v r e h = h ∙ rw (add-one, e) (word-and _ _ w)
 
 module _ (columns steps : ℕ) (needs sets : List ℕ) where

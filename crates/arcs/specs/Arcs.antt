@@ -7,7 +7,7 @@ use lib.ListN.{getD}
 use Rattle.task.specs.Loops.{all}
 use Rattle.blocks.specs.Blocks.{common, isEmpty}
 use Rattle.blocks.specs.Flat.{past, rowOf}
-use Rattle.blocks.specs.Masks.{lies, leadsBy, goalBy}
+use Rattle.blocks.specs.Masks.{allLie, leadsBy, goalBy}
 
 -- step s leads from block a to block b, all three of them there
 pub record Arc (columns count steps : ℕ) (needs lands sets : List ℕ) (a s b : ℕ) : Type 0 where
@@ -18,7 +18,7 @@ pub record Arc (columns count steps : ℕ) (needs lands sets : List ℕ) (a s b 
 
 -- what step s wants lies in block a: its needs where it starts, its landing where it ends
 unfoldable pub fitsIn : ℕ → List ℕ → List ℕ → ℕ → ℕ → Bool
-fitsIn columns wants sets s a = all columns (λ j. lies (past wants (rowOf s) j) (past sets (rowOf a) j))
+fitsIn columns wants sets s a = allLie columns (rowOf s) (rowOf a) wants sets
 
 -- the columns that step s keeps
 unfoldable pub keeps : List ℕ → ℕ → ℕ → Bool

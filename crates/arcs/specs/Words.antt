@@ -7,11 +7,10 @@ use Prim.Native.Nat.{ℕ, zero, suc, _+_, _-_, _*_, _/_, _%_, _^_, _<_, _≤_}
 use lib.Dec.{eqb, ltb}
 use lib.Bits.{bitAnd}
 use lib.ListN.{getD}
-use Rattle.task.specs.Loops.{all}
 use Rattle.task.specs.Sizes.{limits}
 use Rattle.blocks.specs.Blocks.{common, isEmpty}
 use Rattle.blocks.specs.Flat.{past, rowOf}
-use Rattle.blocks.specs.Masks.{lies}
+use Rattle.blocks.specs.Masks.{lies, allLie}
 use Rattle.arcs.specs.Arcs.{fitsIn}
 
 -- the blocks of a word, the words for all blocks, and those for so many
@@ -86,7 +85,7 @@ pub record Opened (used : ℕ) (has : ℕ → Bool) (O : List ℕ) : Type 0 wher
 
 -- every open block meets the settled block in column j
 unfoldable pub wideIn : ℕ → List ℕ → List ℕ → ℕ → Bool
-wideIn used meets left j = all used (λ w. lies (getD left w 0) (getD meets (j * words + w) 0))
+wideIn used meets left j = allLie used 0 (j * words) left meets
 
 -- the first places of a list are columns
 pub record Listed (few : ℕ) (N : List ℕ) : Type 0 where

@@ -36,14 +36,7 @@ pub fn fits_in(
 {
     let rs = s * Model::COLUMNS;
     let ra = a * Model::COLUMNS;
-    let mut j: usize = 0;
-    while j < columns {
-        if !blocks::lies(wants[rs + j], sets[ra + j]) {
-            return false;
-        }
-        j += 1;
-    }
-    true
+    blocks::all_lie(columns, rs, ra, wants, sets)
 }
 
 // The blocks of word w that hold a need in column j, as a mask.
@@ -263,14 +256,7 @@ fn is_wide(
     ensures { λ r. ⌜ r ≡ wideIn used (now (meets .entry)) (now (left .entry)) j ⌝ }
 {
     let row = j * WORDS;
-    let mut w: usize = 0;
-    while w < used {
-        if !blocks::lies(left[w], meets[row + w]) {
-            return false;
-        }
-        w += 1;
-    }
-    true
+    blocks::all_lie(used, 0, row, left, meets)
 }
 
 fn one_unless(t: bool) -> usize

@@ -49,6 +49,11 @@ tab-set n f g a v d e h =
     (λ (q : i ≢ a). h i k q ∙ sym (getD-set-other (tab n f) a i v d q ∙ tab-at n f d i k))
     (same-or-not i a))
 
+-- what stands past the first place
+pub past-start : (l : List ℕ) (i : ℕ) → past l 0 i ≡ getD l i 0
+unfolding past
+past-start l i = rw zero-add
+
 -- ---- values laid from a place on
 module _ (f : ℕ → ℕ) (place : ℕ) (l : List ℕ) where
   pub laid-none : laid 0 f place l ≡ l

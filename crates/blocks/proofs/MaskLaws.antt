@@ -24,9 +24,9 @@ use Rattle.task.proofs.LoopLaws.{all-ext, tab-at}
 use Rattle.task.proofs.TableLaws.{columns-of, steps-of, goal-of, need-of, effect-of, marked-none, marked-some}
 use Rattle.blocks.specs.Blocks.{PositionSet, holds, only, common, isEmpty, leadsAt, goalIn, blockAt, leads, goalBlock}
 use Rattle.blocks.specs.Flat.{past, rowOf, blocksIn}
-use Rattle.blocks.specs.Masks.{wants, landing, lies, passes, markSet, landSet, needSet, landsSet, goalSet, needSets, landSets, goalSets, Told, leadsBy, goalBy}
+use Rattle.blocks.specs.Masks.{wants, landing, lies, passes, markSet, landSet, needSet, landsSet, goalSet, needSets, landSets, goalSets, Told, allLie, leadsBy, goalBy}
 use Rattle.blocks.proofs.PartLaws.{same-or-not}
-use Rattle.blocks.proofs.FlatLaws.{block-at, set-at}
+use Rattle.blocks.proofs.FlatLaws.{past-start, block-at, set-at}
 
 -- ---- one column
 
@@ -165,9 +165,9 @@ module _ (t : Task) (columns count : ℕ) (needs lands goals sets : List ℕ) (t
       (passes-leads (needAt t s (column j)) (effectAt t s (column j)) _ _)))
 
   pub goal-by : (a : Block) → a .0 < count → goalBy columns goals sets (a .0) ≡ goalBlock t (blockAt (blocksIn columns count sets) a)
-  unfolding goalBy goalBlock eachColumn
+  unfolding goalBy allLie goalBlock eachColumn
   goal-by a ha =
       rw (wide, block-at columns count sets a ha)
       (all-ext columns _ _ (λ j h.
       let k : j < columnCount t = omega arith in
-      rw (told .goal (column j) k, set-at columns sets (a .0) (column j) h) (lies-goal (goalAt t (column j)) _)))
+      rw (past-start goals j, told .goal (column j) k, set-at columns sets (a .0) (column j) h) (lies-goal (goalAt t (column j)) _)))

@@ -32,6 +32,10 @@ landing n (some e) = only e
 unfoldable pub lies : PositionSet → PositionSet → Bool
 lies w a = eqb (common a w) w
 
+-- the n sets from place i of xs on lie in those from place k of ys on, each in its own
+unfoldable pub allLie : ℕ → ℕ → ℕ → List PositionSet → List PositionSet → Bool
+allLie n i k xs ys = all n (λ j. lies (past xs i j) (past ys k j))
+
 -- one column, by its sets: the need lies in a, the landing in b, and where the step keeps the column the two meet
 unfoldable pub passes : PositionSet → PositionSet → PositionSet → PositionSet → Bool
 passes need land a b = lies need a && lies land b && not (isEmpty land && isEmpty (common a b))
@@ -83,4 +87,4 @@ leadsBy columns needs lands sets s a b =
 
 -- block a is a goal block
 unfoldable pub goalBy : ℕ → List ℕ → List ℕ → ℕ → Bool
-goalBy columns goals sets a = all columns (λ j. lies (getD goals j 0) (past sets (rowOf a) j))
+goalBy columns goals sets a = allLie columns 0 (rowOf a) goals sets

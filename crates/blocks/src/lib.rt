@@ -10,7 +10,7 @@ ghost use Rattle.task.specs.Task.{Task, Accepted, position, columnCount, isStat
 ghost use Rattle.task.specs.Tables.{taskOf};
 ghost use Rattle.blocks.specs.Blocks.{every, whole, cutOk, accepted, blocksOf, blockOf};
 ghost use Rattle.blocks.specs.Flat.{past, laid, cutIn, blocksIn, cut, cutsIn, goesOn, followed};
-ghost use Rattle.blocks.specs.Masks.{lies, passes, parts, markSet, landSet, needSets, landSets, goalSets, leadsBy, goalBy};
+ghost use Rattle.blocks.specs.Masks.{lies, allLie, passes, parts, markSet, landSet, needSets, landSets, goalSets, leadsBy, goalBy};
 use task::Block;
 use task::Column;
 use task::Mark;
@@ -193,6 +193,21 @@ pub fn lies(wanted: u32, a: u32) -> bool
     a & wanted == wanted
 }
 
+// Whether n sets from place i on lie in those from place k on, each in its own.
+pub fn all_lie(n: usize, i: usize, k: usize, wants: &[u32], sets: &[u32]) -> bool
+    requires { ⌜ (i + n ≤ length (now wants)) × (k + n ≤ length (now sets)) ⌝ }
+    ensures { λ r. ⌜ r ≡ allLie n i k (now (wants .entry)) (now (sets .entry)) ⌝ }
+{
+    let mut j: usize = 0;
+    while j < n {
+        if !lies(wants[i + j], sets[k + j]) {
+            return false;
+        }
+        j += 1;
+    }
+    true
+}
+
 // Whether block a is a goal block.
 pub fn is_goal_block(
     columns: usize,
@@ -204,14 +219,7 @@ pub fn is_goal_block(
     ensures { λ r. ⌜ r ≡ goalBy columns (now (goals .entry)) (now (sets .entry)) (a .0) ⌝ }
 {
     let ra = a.0 as usize * Model::COLUMNS;
-    let mut j: usize = 0;
-    while j < columns {
-        if !lies(goals[j], sets[ra + j]) {
-            return false;
-        }
-        j += 1;
-    }
-    true
+    all_lie(columns, 0, ra, goals, sets)
 }
 
 // Whether a cut may take the wanted positions off a set.

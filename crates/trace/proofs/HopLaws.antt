@@ -18,7 +18,7 @@ use Rattle.task.specs.Task.{Task, Accepted, step, block, costOf}
 use Rattle.task.proofs.LoopLaws.{and-left, true-or-false, below-suc, all-false, all-fails, first-some, when-some}
 use Rattle.blocks.specs.Blocks.{Blocks}
 use Rattle.blocks.specs.Flat.{blocksIn}
-use Rattle.blocks.specs.Masks.{passes, leadsBy}
+use Rattle.blocks.specs.Masks.{allLie, passes, leadsBy}
 use Rattle.blocks.proofs.FlatLaws.{blocks-length}
 use Rattle.blocks.proofs.MaskLaws.{leads-by}
 use Rattle.blocks.proofs.PartLaws.{same-or-not}
@@ -129,7 +129,7 @@ module _ (columns : ℕ) (needs lands costs sets dist : List ℕ) (a s : ℕ) wh
       (same-or-not next rest))
 
   no-lead : (b : ℕ) → fitsIn columns needs sets s a ≡ false → leadsBy columns needs lands sets s a b ≡ false
-  unfolding fitsIn leadsBy passes
+  unfolding fitsIn allLie leadsBy passes
   no-lead b h = let r = all-false columns _ h in all-fails columns _ (r .0) (r .1) (rw (r .2))
 
   no-fit : (b : ℕ) → mayTake columns needs costs sets dist a s ≡ false → fitsBy columns needs lands costs sets dist a s b ≡ false

@@ -20,10 +20,10 @@ use Rattle.task.proofs.LoopLaws.{true-or-false, all-ext, tab-at, over-at}
 use Rattle.task.proofs.TaskLaws.{column-passes, per-at, position-below, taken-at}
 use Rattle.blocks.specs.Blocks.{PositionSet, holds, only, common, isEmpty, setAt, blockAt, goalIn, inBlock}
 use Rattle.blocks.specs.Flat.{past, rowOf, blocksIn}
-use Rattle.blocks.specs.Masks.{wants, landing, lies, Told}
+use Rattle.blocks.specs.Masks.{wants, landing, lies, allLie, Told}
 use Rattle.blocks.proofs.SetLaws.{holds-only, holds-every, in-common, common-held}
 use Rattle.blocks.proofs.PartLaws.{Parts, same-or-not}
-use Rattle.blocks.proofs.FlatLaws.{blocks-length, block-at, set-at}
+use Rattle.blocks.proofs.FlatLaws.{past-start, blocks-length, block-at, set-at}
 use Rattle.blocks.proofs.MaskLaws.{none-empty, only-some, lies-goal}
 use Rattle.run.specs.Run.{Wanted, wantedAt, allowed, backAt, goalWanted, needWanted, backWanted, cutColumn, cutFor}
 use Rattle.run.proofs.FlawLaws.{Flaw, cut-column}
@@ -94,20 +94,20 @@ back-codes size (some n) e b p h f = let z : backSet (only n) (landing (some n) 
 -- ---- a row
 module _ (t : Task) (columns count : ℕ) (needs lands goals sets : List ℕ) (told : Told t needs lands goals) (wide : columnCount t ≡ columns) (x : State) (here : List ℕ) (stands : Stands t x here) where
   pub takes-is : (s : Step) → s .0 < stepCount t → takesBy columns needs here (s .0) ≡ canTake t s x
-  unfolding takesBy canTake eachColumn Stands
+  unfolding takesBy allLie canTake eachColumn Stands
   takes-is s hs =
       rw wide
       (all-ext columns _ _ (λ j h.
       let k : j < columnCount t = omega arith in
-      rw (told .need s (column j) hs k, stands (column j) k) (lies-meets (needAt t s (column j)) (at x (column j)))))
+      rw (past-start here j, told .need s (column j) hs k, stands (column j) k) (lies-meets (needAt t s (column j)) (at x (column j)))))
 
   pub goal-is : goalAtEnd columns goals here ≡ isGoal t x
-  unfolding goalAtEnd isGoal eachColumn Stands
+  unfolding goalAtEnd allLie isGoal eachColumn Stands
   goal-is =
       rw wide
       (all-ext columns _ _ (λ j h.
       let k : j < columnCount t = omega arith in
-      rw (told .goal (column j) k, stands (column j) k) (lies-meets (goalAt t (column j)) (at x (column j)))))
+      rw (past-start goals j, past-start here j, told .goal (column j) k, stands (column j) k) (lies-meets (goalAt t (column j)) (at x (column j)))))
 
   module _ (s : Step) (known : s .0 < stepCount t) (can : canTake t s x ≡ true) where
     landed-is : (j : Column) → j .0 < columnCount t → landedAt lands here (s .0) (j .0) ≡ only (at (taken t s x) j)

@@ -15,7 +15,7 @@ use Rattle.task.specs.Task.{Task, State, Tenths, Accepted, column, step, at, co
 use Rattle.blocks.specs.declared.Cut.{Cut}
 use Rattle.blocks.specs.Blocks.{PositionSet, only, common, isEmpty, blockAt, inBlock, accepted, blocksOf}
 use Rattle.blocks.specs.Flat.{past, rowOf, blocksIn}
-use Rattle.blocks.specs.Masks.{lies}
+use Rattle.blocks.specs.Masks.{allLie}
 use Rattle.distances.specs.Distances.{Distance, Hop, farOf, distances}
 use Rattle.settling.specs.Coded.{Tables}
 use Rattle.run.specs.Run.{Look, planned, flaw, trace, walk, lookWalk}
@@ -46,10 +46,10 @@ isOff wanted here = not (isEmpty wanted) && isEmpty (common here wanted)
 -- ---- a row
 
 unfoldable pub takesBy : ℕ → List ℕ → List ℕ → ℕ → Bool
-takesBy columns needs here s = all columns (λ j. lies (past needs (rowOf s) j) (getD here j 0))
+takesBy columns needs here s = allLie columns (rowOf s) 0 needs here
 
 unfoldable pub goalAtEnd : ℕ → List ℕ → List ℕ → Bool
-goalAtEnd columns goals here = all columns (λ j. lies (getD goals j 0) (getD here j 0))
+goalAtEnd columns goals here = allLie columns 0 0 goals here
 
 unfoldable pub landedAt : List ℕ → List ℕ → ℕ → ℕ → PositionSet
 landedAt lands here s j = landed (past lands (rowOf s) j) (getD here j 0)

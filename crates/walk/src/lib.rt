@@ -10,7 +10,7 @@ ghost use Rattle.blocks.specs.declared.Cut.{Cut};
 ghost use Rattle.distances.specs.Distances.{Distance};
 ghost use Rattle.walk.specs.Walking.{landed, backSet, isOff, takesBy, goalAtEnd, landsBy, takenBy, needRow, backRow, lowestOff, cutBy, endBy, turnBy, standsAfter, followBy, outcome, seen, Known, Begins, walked};
 use blocks::Cut;
-use blocks::lies;
+use blocks::all_lie;
 use task::Block;
 use task::Column;
 use task::Model;
@@ -74,14 +74,7 @@ fn can_take(
     ensures { λ r. ⌜ r ≡ takesBy columns (now (needs .entry)) (now (here .entry)) (s .0) ⌝ }
 {
     let rs = s.0 as usize * Model::COLUMNS;
-    let mut j: usize = 0;
-    while j < columns {
-        if !lies(needs[rs + j], here[j]) {
-            return false;
-        }
-        j += 1;
-    }
-    true
+    all_lie(columns, rs, 0, needs, here)
 }
 
 // Whether the step, taken in the state, lands in block b.
@@ -131,14 +124,7 @@ fn is_goal(columns: usize, goals: &[u32; Model::COLUMNS], here: &[u32; Model::CO
     requires { ⌜ columns ≤ limits .columns ⌝ }
     ensures { λ r. ⌜ r ≡ goalAtEnd columns (now (goals .entry)) (now (here .entry)) ⌝ }
 {
-    let mut j: usize = 0;
-    while j < columns {
-        if !lies(goals[j], here[j]) {
-            return false;
-        }
-        j += 1;
-    }
-    true
+    all_lie(columns, 0, 0, goals, here)
 }
 
 // The wanted sets of a need flaw: the step's needs.

@@ -1,93 +1,23 @@
 use Rattle.walk.specs.Walking.{takesBy}
-use Rattle.blocks.specs.Masks.{lies}
-use Rattle.blocks.specs.Flat.{past}
-use Rattle.task.proofs.LoopLaws.{all-more, all-fails}
-use Rattle.task.specs.Loops.{all}
-use borrow.Author.Tests.{not-true, not-false}
-use lib.ListN.{getD}
-use native.Mathlib.Omega.{arith}
-use Prim.Native.Nat.{_-_, _≤_}
-use mathlib.Core.Bool.{true}
-use mathlib.Core.Path.{_≡_, refl, sym, _∙_}
 use borrow.Author.Needs.{needs}
 use Rattle.walk.proofs.can_take.Statement.{statement}
 use Rattle.walk.proofs.can_take.Tie as tie
 use Rattle.walk.proofs.can_take.Reads as reads
 use Rattle.walk.proofs.can_take.Lts as lts
-use Rattle.blocks.proofs.lies.Reads as lies-reads
+use Rattle.blocks.proofs.all_lie.Reads as all-lie-reads
 
-abbrev Inv-loop : tie.InvT-loop
-Inv-loop columns needs here rs j₀ j = (j ≤ columns) × (all j (λ i. lies (past needs rs i) (getD here i 0)) ≡ true)
-
-abbrev μ-loop : tie.MeasureT-loop
-μ-loop columns needs here rs j₀ j = columns - j
-
-cast-rs : tie.Need-cast-rs Inv-loop μ-loop
+cast-rs : tie.Need-cast-rs
 cast-rs c = search needs
 
-mul-rs : tie.Need-mul-rs Inv-loop μ-loop
+mul-rs : tie.Need-mul-rs
 mul-rs c = search needs
 
-loop-holds : tie.Need-loop-holds Inv-loop μ-loop
-unfolding all
-loop-holds c = (omega arith, refl)
+all-lie-requires : tie.Need-all-lie-requires
+all-lie-requires c κs = search needs
 
-add-lies : tie.Need-add-lies Inv-loop μ-loop
-add-lies c = search needs
-
-mul-lies : tie.Need-mul-lies Inv-loop μ-loop
-mul-lies c = search needs
-
-element-copy-out-lies : tie.Need-element-copy-out-lies Inv-loop μ-loop
-element-copy-out-lies c = search needs
-
-mul-lies-2 : tie.Need-mul-lies-2 Inv-loop μ-loop
-mul-lies-2 c = search needs
-
-element-copy-out-lies-2 : tie.Need-element-copy-out-lies-2 Inv-loop μ-loop
-element-copy-out-lies-2 c = search needs
-
-lies-requires : tie.Need-lies-requires Inv-loop μ-loop
-lies-requires c κs = search needs
-
-returns : tie.Need-returns Inv-loop μ-loop
-unfolding takesBy past
-returns c = sym (all-fails _ _ (c .before .before .before .before .before .loop .j) (c .before .before .before .before .loop-test .taken) (sym (c .before .lies .ensures) ∙ not-true _ (c .if1 .taken)))
-
-add-j : tie.Need-add-j Inv-loop μ-loop
-add-j c = search needs
-
-loop-less : tie.Need-loop-less Inv-loop μ-loop
-loop-less c = search needs
-
-loop-again : tie.Need-loop-again Inv-loop μ-loop
-unfolding past
-loop-again c = (omega arith, all-more _ _ (c .before .before .before .before .before .loop .inv .1) (sym (c .before .lies .ensures) ∙ not-false _ (c .if1 .left)))
-
-returns-2 : tie.Need-returns-2 Inv-loop μ-loop
-unfolding takesBy past
-returns-2 c =
-    let l = c .before .loop in
-    let e : l .j ≡ c .before .before .before .args .columns = omega arith in
-    rw e at (sym (l .inv .1))
+returns : tie.Need-returns
+unfolding takesBy
+returns c = c .all-lie .ensures
 
 pub can-take-spec : {M : Type 1} → statement M
-can-take-spec =
-    tie.close
-    (tie.spec
-    Inv-loop
-    μ-loop
-    cast-rs
-    mul-rs
-    loop-holds
-    add-lies
-    mul-lies
-    element-copy-out-lies
-    mul-lies-2
-    element-copy-out-lies-2
-    lies-requires
-    returns
-    add-j
-    loop-less
-    loop-again
-    returns-2)
+can-take-spec = tie.close (tie.spec cast-rs mul-rs all-lie-requires returns)
