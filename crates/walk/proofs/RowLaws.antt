@@ -3,12 +3,13 @@ use mathlib.Core.Path.{_≡_, _∙_, ap}
 use mathlib.Core.Logic.{_≢_}
 use mathlib.Core.Bool.{true, false, not}
 use mathlib.Core.List.{List}
-use mathlib.Core.Option.{none, some}
+use mathlib.Core.Option.{Option, none, some, Option·getD}
 use Prim.Native.Nat.{ℕ, _+_, _<_}
 use lib.Bits.{bitAnd}
 use lib.ListN.{length, getD, set}
 use borrow.Author.Tests.{eq-eqb, ne-eqb}
 use native.Mathlib.Omega.{arith}
+use Rattle.task.specs.declared.Column.{Column}
 use Rattle.task.specs.Loops.{first, tab, over}
 use Rattle.task.specs.Task.{column}
 use Rattle.blocks.specs.Blocks.{common, isEmpty}
@@ -29,7 +30,7 @@ module _ (wanted here : List ℕ) where
 
   pub lowest-here : (columns j : ℕ) → j < columns → first j (offAt wanted here) ≡ none → isOff (getD wanted j 0) (getD here j 0) ≡ true → lowestOff columns wanted here ≡ column j
   unfolding lowestOff
-  lowest-here columns j h k o = rw (first-here (offAt wanted here) columns j h k (off-here j o))
+  lowest-here columns j h k o = ap (λ (x : Option Column). Option·getD x (column 0)) (first-here (offAt wanted here) columns j h k (off-here j o))
 
   pub lowest-none : (columns : ℕ) → first columns (offAt wanted here) ≡ none → lowestOff columns wanted here ≡ column 0
   unfolding lowestOff

@@ -1,3 +1,6 @@
+use mathlib.Core.Path.{_≡_, refl}
+use mathlib.Core.Bool.{false}
+use lib.Dec.{ltb}
 use Rattle.arcs.specs.Words.{openIn}
 use borrow.Author.Tests.{lt-ltb, le-ltb}
 use borrow.Author.Needs.{needs}
@@ -8,7 +11,7 @@ use Rattle.arcs.proofs.is_open.Lts as lts
 
 returns : tie.Need-returns
 unfolding openIn
-returns c = rw (le-ltb _ _ (c .if1 .taken))
+returns c = let e : ltb (c .before .args .a) (c .before .args .count) ≡ false = le-ltb _ _ (c .if1 .taken) in rw e refl
 
 element-copy-out-result : tie.Need-element-copy-out-result
 element-copy-out-result c = search needs
