@@ -1,5 +1,4 @@
 pub mod CutPartLaws
 pub mod CutRoundLaws
-pub mod CutRefusalLaws
 pub mod CutSheetLaws
 pub mod JudgeLaws

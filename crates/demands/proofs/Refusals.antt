@@ -18,13 +18,13 @@ use Rattle.task.specs.Loops.{over}
 use Rattle.task.specs.Task.{Task}
 use Rattle.fields.specs.Judging.{pick, refusal}
 use Rattle.fields.specs.Packing.{sheetOf}
-use Rattle.fields.proofs.ExactLaws.{Numbered, numbered-append, Judged, judges}
-use Rattle.sheets.specs.ModelSheet.{Source, columnsIn, stepsIn, columnsOf, stepsOf, ofSheet, entries, modelBytes, sheetChecks}
+use Rattle.fields.proofs.ExactLaws.{has, Judged, judges}
+use Rattle.sheets.specs.ModelSheet.{Source, columnsIn, stepsIn, columnsOf, stepsOf, ofSheet, entries, modelBytes}
 use Rattle.sheets.specs.Holding.{taskOn}
 use Rattle.sheets.specs.LentTables.{frameOf, costsOf, marksOf, ofTables, readChecks, writeChecks}
 use Rattle.sheet_laws.proofs.Refusals as sheet
 use Rattle.cut_sheets.specs.CutPart.{cutBytes, countOf}
-use Rattle.cut_sheets.specs.CutSheet.{tailOf, cutSheetChecks, cutsOf, cutList, rebuildChecks, cutSheetOf, writeCutsChecks}
+use Rattle.cut_sheets.specs.CutSheet.{tailOf, cutsOf, cutList, rebuildChecks, cutSheetOf, writeCutsChecks}
 use Rattle.cut_laws.proofs.Refusals as cut
 use Rattle.question_laws.proofs.Refusals as asked
 use Rattle.run_laws.proofs.Refusals as ran
@@ -54,8 +54,8 @@ use Rattle.running.specs.Running as running
 use Rattle.running.specs.Running.{told}
 use Rattle.rows.specs.Rows as rows
 use Rattle.rows.specs.Rows.{rowChecks, rowRun}
-use Rattle.historian.specs.Entries.{answerNumber, fewPlaces, entryChecks, RunOutcome, runOutcome, madeBytes, runEntry, bytesOf, askChecks, AskOutcome, askOutcome, askEntry}
-use Rattle.demands.proofs.RefusalNumbers.{has, sheetNumbers, cutNumbers, rebuildNumbers, questionNumbers, read-gives, write-gives, rebuild-gives, write-cuts-gives, question-gives, ask-gives, runNumbers, run-gives, row-run-gives, entry-gives, entry-low}
+use Rattle.historian.specs.Entries.{answerNumber, entryChecks, RunOutcome, runOutcome, madeBytes, runEntry, bytesOf, askChecks, AskOutcome, askOutcome, askEntry}
+use Rattle.demands.proofs.RefusalNumbers.{sheetNumbers, cutNumbers, rebuildNumbers, questionNumbers, read-gives, write-gives, rebuild-gives, write-cuts-gives, question-gives, ask-numbers, ask-gives, runNumbers, run-gives, row-numbers, row-run-gives, entry-numbers, entry-gives, entry-low}
 
 -- ---- read_model
 module _ (s frame costs marks : List ℕ) {r : ModelRead} {f c m : List ℕ} (done : reading.outcome r f c m ≡ reading.reading s frame costs marks) where
@@ -120,10 +120,10 @@ module _ (s : List ℕ) (room : ℕ) (cuts : List ℕ) (rs : List Row) where
   rowsMade = let o = run.run (taskOn s) room in rows.outcome (told (taskOn s) (run.blockCount o) (o .answer)) (over (listed cutPlace (o .made)) cuts) (over (run.rowsOf (taskOn s) (o .answer)) rs)
 
   row-runner : Judged (λ (o : rows.Outcome). running.number (o .answer)) (λ n. rows.outcome (answer.Refused n) cuts rs) (rowChecks s room cuts rs) rowsMade (rowRun s room cuts rs)
-  unfolding rowRun rowChecks running.number
+  unfolding rowRun running.number
   row-runner =
       let t = taskOn s in
-      judges _ _ (rowChecks s room cuts rs) _ (numbered-append (sheetChecks s) _ (sheet.numbered-sheet s) (λ z. omega arith, (λ z. omega arith, (λ z. omega arith, tt))))
+      judges _ _ ran.numbers refl (rowChecks s room cuts rs) (row-numbers s room cuts rs) _
       (ran.told-number t (run.blockCount (run.run t room)) (run.run t room .answer)) refl
 
   module _ {a : Answer} {c : List ℕ} {l : List Row} (done : rows.outcome a c l ≡ rowRun s room cuts rs) where
@@ -144,10 +144,6 @@ large t b noPlan = omega arith
 large t b («open» e) = omega arith
 
 module _ (s : List ℕ) (room : ℕ) (cuts rs : List ℕ) where
-  numbered-entry : Numbered (entryChecks s room cuts rs)
-  unfolding entryChecks fewPlaces
-  numbered-entry = numbered-append (sheetChecks s) _ (sheet.numbered-sheet s) (λ z. omega arith, (λ z. omega arith, (λ z. omega arith, tt)))
-
   abbrev R : ℕ
   R = refusal (entryChecks s room cuts rs)
 
@@ -164,7 +160,7 @@ module _ (s : List ℕ) (room : ℕ) (cuts rs : List ℕ) where
   entry-runner =
       let o = run.run (taskOn s) room in
       let v = answerNumber (told (taskOn s) (run.blockCount o) (o .answer)) in
-      judges _ _ (entryChecks s room cuts rs) _ numbered-entry (ap (λ (b : Bool). pick b v 0) (le-ltb v (2 ^ 56) (large (taskOn s) (run.blockCount o) (o .answer))))
+      judges _ _ ran.numbers refl (entryChecks s room cuts rs) (entry-numbers s room cuts rs) _ (ap (λ (b : Bool). pick b v 0) (le-ltb v (2 ^ 56) (large (taskOn s) (run.blockCount o) (o .answer))))
       (ap (λ (b : Bool). pick b R 0) (lt-ltb R (2 ^ 56) (omega (arith, entry-low s room cuts rs))))
 
   module _ {r : ℕ} {c l : List ℕ} (done : runOutcome r c l ≡ runEntry s room cuts rs) where
@@ -180,8 +176,8 @@ module _ (model s states est : List ℕ) where
   asked-made = askOutcome 0 (over (bytesOf (estimatesOf (taskOn model) (cutsOf s) states)) est)
 
   pub entry-asker : Judged (λ (o : AskOutcome). o .answer) (λ n. askOutcome n est) (askChecks model s states est) asked-made (askEntry model s states est)
-  unfolding askEntry askChecks fewPlaces
-  entry-asker = judges _ _ (askChecks model s states est) _ (numbered-append (cutSheetChecks model s) _ (cut.numbered-sheets model s) (λ z. omega arith, (λ z. omega arith, tt))) refl refl
+  unfolding askEntry
+  entry-asker = judges _ _ asked.numbers refl (askChecks model s states est) (ask-numbers model s states est) _ refl refl
 
   module _ {r : ℕ} {l : List ℕ} (done : askOutcome r l ≡ askEntry model s states est) where
     pub elhavir-question-judged : Judged (λ (o : AskOutcome). o .answer) (λ n. askOutcome n est) (askChecks model s states est) asked-made (askOutcome r l)

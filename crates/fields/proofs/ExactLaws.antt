@@ -4,13 +4,13 @@ use native.Mathlib.Nat.{le-of-suc-le-suc, not-suc-le-zero}
 use native.Mathlib.Omega.{arith}
 use mathlib.Core.Path.{_≡_, refl, sym, ap, _∙_}
 use mathlib.Core.Logic.{_↔_}
-use mathlib.Core.Bool.{Bool, true, false}
+use mathlib.Core.Bool.{Bool, true, false, _&&_, _||_, and-eq-true-iff, false≢true}
 use mathlib.Core.List.{List, [], _∷_, _++_}
-use lib.Dec.{eqb}
+use lib.Dec.{eqb, ltb}
 use lib.ListN.{length, getD}
-use borrow.Author.Tests.{eqb-true, eq-eqb}
-use Rattle.fields.specs.Judging.{Entry, Check, check, checksOf, pick, refusal, each}
-use Rattle.fields.proofs.JudgingLaws.{stop, go, no-checks, passes, passed, refused-is}
+use borrow.Author.Tests.{eqb-true, eq-eqb, ltb-true}
+use Rattle.fields.specs.Judging.{Entry, Check, check, checksOf, _then_, pick, refusal, each}
+use Rattle.fields.proofs.JudgingLaws.{stop, go, checks-append, no-checks, passes, passed, refused-is}
 
 abbrev pub noCheck : Check
 noCheck = check 0 false
@@ -23,33 +23,74 @@ pub record FirstToApply (cs : List Check) (n : ℕ) : Type 0 where
   pub applies : getD cs place noCheck .applies ≡ true
   pub before : (k : ℕ) → k < place → getD cs k noCheck .applies ≡ false
 
+-- ---- which numbers checks have
+
+-- every one of a list passes p
+abbrev pub every : {A : Type 0} → (A → Bool) → List A → Bool
+every p [] = true
+every p (x ∷ xs) = p x && every p xs
+
+-- n is one of the numbers
+abbrev pub has : List ℕ → ℕ → Bool
+has [] n = false
+has (k ∷ ks) n = eqb n k || has ks n
+
+-- the numbers of the checks pass p
+abbrev pub Numbers : (ℕ → Bool) → List Check → Type 0
+Numbers p cs = every (λ (c : Check). p (c .number)) cs ≡ true
+
 -- no check has the number 0, which is no refusal
 abbrev pub Numbered : List Check → Type 0
-Numbered [] = Unit {0}
-Numbered (c ∷ cs) = (c .number ≡ 0 → ⊥) × Numbered cs
+Numbered = Numbers (ltb 0)
 
-pub numbered-append : (a b : List Check) → Numbered a → Numbered b → Numbered (a ++ b)
-numbered-append [] b p q = q
-numbered-append (c ∷ a) b p q = (p .0, numbered-append a b (p .1) q)
+module _ (p : ℕ → Bool) where
+  append : (a b : List Check) → Numbers p a → Numbers p b → Numbers p (a ++ b)
+  append [] b f g = g
+  append (c ∷ a) b f g = let h = and-eq-true-iff (p (c .number)) _ .0 f in rw (h .0) (append a b (h .1) g)
 
--- fields whose bad values have a number
-abbrev pub NumberedFields : List Entry → Type 0
-NumberedFields [] = Unit {0}
-NumberedFields (e ∷ es) = (e .number ≡ 0 → ⊥) × NumberedFields es
+  pub fields-append : (a b : List Entry) → Numbers p (checksOf a) → Numbers p (checksOf b) → Numbers p (checksOf (a ++ b))
+  fields-append a b f g = rw (checks-append a b) (append (checksOf a) (checksOf b) f g)
 
-pub fields-append : (a b : List Entry) → NumberedFields a → NumberedFields b → NumberedFields (a ++ b)
-fields-append [] b p q = q
-fields-append (e ∷ a) b p q = (p .0, fields-append a b (p .1) q)
+  pub fields-each : (f : ℕ → List Entry) (n : ℕ) → ((i : ℕ) → Numbers p (checksOf (f i))) → Numbers p (checksOf (each n f))
+  unfolding each checksOf
+  fields-each f zero h = refl
+  fields-each f (suc n) h = fields-append (each n f) (f n) (fields-each f n h) (h n)
 
-pub fields-each : (f : ℕ → List Entry) (n : ℕ) → ((i : ℕ) → NumberedFields (f i)) → NumberedFields (each n f)
-unfolding each
-fields-each f zero h = tt
-fields-each f (suc n) h = fields-append (each n f) (f n) (fields-each f n h) (h n)
+  then-passes : (b : Bool) (n r : ℕ) → p n ≡ true → p r ≡ true → p (pick b n 0 then r) ≡ true
+  unfolding _then_
+  then-passes true zero r f g = g
+  then-passes true (suc n) r f g = f
+  then-passes false n r f g = g
 
-pub numbered-checks : (es : List Entry) → NumberedFields es → Numbered (checksOf es)
-unfolding checksOf
-numbered-checks [] p = tt
-numbered-checks (e ∷ es) p = (λ z. omega arith, (p .0, numbered-checks es (p .1)))
+  refusal-passes : p 0 ≡ true → (cs : List Check) → Numbers p cs → p (refusal cs) ≡ true
+  unfolding refusal
+  refusal-passes z [] f = z
+  refusal-passes z (c ∷ cs) f =
+      let h = and-eq-true-iff (p (c .number)) _ .0 f in
+      then-passes (c .applies) (c .number) (refusal cs) (h .0) (refusal-passes z cs (h .1))
+
+  has-passes : (ns : List ℕ) (n : ℕ) → every p ns ≡ true → has ns n ≡ true → p n ≡ true
+  has-passes [] n f h = absurd (false≢true h)
+  has-passes (k ∷ ns) n f h = split (eqb n k) refl h (has-passes ns n (and-eq-true-iff (p k) _ .0 f .1))
+    where
+      split : (b : Bool) → eqb n k ≡ b → (b || has ns n) ≡ true → (has ns n ≡ true → p n ≡ true) → p n ≡ true
+      split true e h next = ap p (eqb-true n k e) ∙ and-eq-true-iff (p k) _ .0 f .0
+      split false e h next = next h
+
+  -- ---- numbers among ns, every one of which passes p
+  module _ (ns : List ℕ) where
+    wider : every p ns ≡ true → (cs : List Check) → Numbers (has ns) cs → Numbers p cs
+    wider f [] g = refl
+    wider f (c ∷ cs) g = let h = and-eq-true-iff (has ns (c .number)) _ .0 g in rw (has-passes ns (c .number) f (h .0)) (wider f cs (h .1))
+
+    pub numbers-append : every p ns ≡ true → (a b : List Check) → Numbers (has ns) a → Numbers p b → Numbers p (a ++ b)
+    numbers-append f a b g h = append a b (wider f a g) h
+
+    pub gives : every p (0 ∷ ns) ≡ true → (cs : List Check) → Numbers (has ns) cs → p (refusal cs) ≡ true
+    gives f cs g = let h = and-eq-true-iff (p 0) (every p ns) .0 f in refusal-passes (h .0) cs (wider (h .1) cs g)
+
+first-numbered : (c : Check) (cs : List Check) → Numbered (c ∷ cs) → (c .number ≡ 0 → ⊥) × Numbered cs
+first-numbered c cs f = let h = and-eq-true-iff (ltb 0 (c .number)) _ .0 f in (λ z. omega (arith, ltb-true 0 (c .number) (h .0), z), h .1)
 
 -- ---- one way
 first-applies : (c : Check) (cs : List Check) (n : ℕ) → (c .number ≡ 0 → ⊥) → c .applies ≡ true → refusal (c ∷ cs) ≡ n → c .number ≡ n
@@ -70,10 +111,10 @@ later c cs n h r =
 
 pub applies-first : (cs : List Check) → Numbered cs → (n : ℕ) → (n ≡ 0 → ⊥) → refusal cs ≡ n → FirstToApply cs n
 applies-first [] p n z e = absurd (z (sym e ∙ sym no-checks))
-applies-first (c ∷ cs) p n z e = split (c .applies) refl (λ h. applies-first cs (p .1) n z (sym (first-passes c cs h) ∙ e))
+applies-first (c ∷ cs) p n z e = split (c .applies) refl (λ h. applies-first cs (first-numbered c cs p .1) n z (sym (first-passes c cs h) ∙ e))
   where
     split : (b : Bool) → c .applies ≡ b → (c .applies ≡ false → FirstToApply cs n) → FirstToApply (c ∷ cs) n
-    split true h ih = record { place = 0; below = suc-le-suc zero-le; number = first-applies c cs n (p .0) h e; applies = h; before = λ k l. absurd (not-suc-le-zero l) }
+    split true h ih = record { place = 0; below = suc-le-suc zero-le; number = first-applies c cs n (first-numbered c cs p .0) h e; applies = h; before = λ k l. absurd (not-suc-le-zero l) }
     split false h ih = later c cs n h (ih h)
 
 -- ---- the other way
@@ -98,8 +139,10 @@ none-quiet (c ∷ cs) h = sym (passes (c .number) (c .applies) cs (h 0 (suc-le-s
 
 quiet-none : (cs : List Check) → Numbered cs → refusal cs ≡ 0 → NoneApplies cs
 quiet-none [] p z k l = absurd (not-suc-le-zero l)
-quiet-none (c ∷ cs) p z zero l = passed (c .number) (c .applies) cs (p .0) z .0
-quiet-none (c ∷ cs) p z (suc k) l = quiet-none cs (p .1) (passed (c .number) (c .applies) cs (p .0) z .1) k (le-of-suc-le-suc l)
+quiet-none (c ∷ cs) p z zero l = passed (c .number) (c .applies) cs (first-numbered c cs p .0) z .0
+quiet-none (c ∷ cs) p z (suc k) l =
+    let h = first-numbered c cs p in
+    quiet-none cs (h .1) (passed (c .number) (c .applies) cs (h .0) z .1) k (le-of-suc-le-suc l)
 
 -- what an operation comes to that is made if no check applies, and else refused with the number of the first that does
 pub record Judged {O : Type 0} (number : O → ℕ) (refused : ℕ → O) (cs : List Check) (made o : O) : Type 0 where
@@ -112,9 +155,9 @@ pub record Judged {O : Type 0} (number : O → ℕ) (refused : ℕ → O) (cs : 
   -- and then everything lent is as found
   pub leaves : (n : ℕ) → (n ≡ 0 → ⊥) → number o ≡ n → o ≡ refused n
 
-pub judges : {O : Type 0} (number : O → ℕ) (refused : ℕ → O) (cs : List Check) (made : O) → Numbered cs → number made ≡ 0 → number (refused (refusal cs)) ≡ refusal cs
+pub judges : {O : Type 0} (number : O → ℕ) (refused : ℕ → O) (ns : List ℕ) → every (ltb 0) ns ≡ true → (cs : List Check) → Numbers (has ns) cs → (made : O) → number made ≡ 0 → number (refused (refusal cs)) ≡ refusal cs
     → Judged number refused cs made (pick (eqb (refusal cs) 0) made (refused (refusal cs)))
-judges number refused cs made numbered none same =
+judges number refused ns some cs among made none same =
     record {
       told = said (eqb R 0) refl;
       done = λ e. goes (sym (said (eqb R 0) refl) ∙ e);
@@ -123,6 +166,9 @@ judges number refused cs made numbered none same =
       leaves = λ n some e. sym (refused-is refused cs made (sym e ∙ said (eqb R 0) refl) some);
     }
   where
+    numbered : Numbered cs
+    numbered = wider (ltb 0) ns some cs among
+
     R : ℕ
     R = refusal cs
 

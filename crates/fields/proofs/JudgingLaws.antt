@@ -38,7 +38,7 @@ unfolding refusal _then_
 refusal-append [] b = refl
 refusal-append (c ∷ a) b = ap (λ (x : ℕ). pick (c .applies) (c .number) 0 then x) (refusal-append a b) ∙ assoc (pick (c .applies) (c .number) 0) (refusal a) (refusal b)
 
-checks-append : (a b : List Entry) → checksOf (a ++ b) ≡ checksOf a ++ checksOf b
+pub checks-append : (a b : List Entry) → checksOf (a ++ b) ≡ checksOf a ++ checksOf b
 unfolding checksOf
 checks-append [] b = refl
 checks-append (e ∷ a) b = ap (λ (x : List Check). check 1 (not (e .field .here)) ∷ check (e .number) (e .bad) ∷ x) (checks-append a b)

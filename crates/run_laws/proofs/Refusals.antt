@@ -1,14 +1,13 @@
 -- 01, "Refusal numbers", of a run: a number is returned exactly when its row applies and no earlier check does, and a refusal leaves
 -- everything lent as found. The checks, in 01's order, are `runChecks`.
 use Prim.Native.Nat.{ℕ}
-use native.Mathlib.Omega.{arith}
 use mathlib.Core.Path.{_≡_, refl}
-use mathlib.Core.List.{List}
+use mathlib.Core.List.{List, [], _∷_}
 use Rattle.task.specs.Task.{Task}
-use Rattle.fields.proofs.ExactLaws.{Numbered, numbered-append, Judged, judges}
+use Rattle.fields.proofs.ExactLaws.{has, Numbers, numbers-append, Judged, judges}
 use Rattle.sheets.specs.ModelSheet.{sheetChecks}
 use Rattle.sheets.specs.Holding.{taskOn}
-use Rattle.sheet_laws.proofs.Refusals.{numbered-sheet}
+use Rattle.sheet_laws.proofs.Refusals as sheet
 use Rattle.run.specs.Run as run
 use Rattle.run.specs.Run.{plan, noPlan, «open»}
 use Rattle.running.specs.declared.Answer.the-variants.{Refused}
@@ -21,13 +20,17 @@ told-number t b (plan ss) = refl
 told-number t b noPlan = refl
 told-number t b («open» e) = refl
 
+-- which numbers a run can get
+abbrev pub numbers : List ℕ
+numbers = 1 ∷ 2 ∷ 3 ∷ 4 ∷ 5 ∷ 6 ∷ 7 ∷ 8 ∷ []
+
 module _ (s : List ℕ) (room : ℕ) (cuts rows : List ℕ) where
-  numbered : Numbered (runChecks s room cuts rows)
+  pub run-numbers : Numbers (has numbers) (runChecks s room cuts rows)
   unfolding runChecks roomChecks
-  numbered = numbered-append (sheetChecks s) _ (numbered-sheet s) (λ z. omega arith, (λ z. omega arith, (λ z. omega arith, tt)))
+  run-numbers = numbers-append (has numbers) sheet.numbers refl (sheetChecks s) _ (sheet.sheet-numbers s) refl
 
   pub runner : Judged (λ (o : Outcome). number (o .answer)) (λ n. outcome (Refused n) cuts rows) (runChecks s room cuts rows) (made (taskOn s) (run.run (taskOn s) room) cuts rows) (running s room cuts rows)
   unfolding running made number
   runner =
       let t = taskOn s in
-      judges _ _ (runChecks s room cuts rows) _ numbered (told-number t (run.blockCount (run.run t room)) (run.run t room .answer)) refl
+      judges _ _ numbers refl (runChecks s room cuts rows) run-numbers _ (told-number t (run.blockCount (run.run t room)) (run.run t room .answer)) refl
