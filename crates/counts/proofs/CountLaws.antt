@@ -27,7 +27,7 @@ use Rattle.running.specs.Running as running
 use Rattle.running.specs.Running.{roomChecks, runChecks, told, outcome, made}
 use Rattle.running.proofs.RowLaws.{three}
 use Rattle.running.proofs.RunningLaws.{Fits, room-fits}
-use Rattle.counts.specs.Counts.{cutValueCount, rowValueCount, Counted}
+use Rattle.counts.specs.Counts.{cutValueCount, rowCount, rowValueCount, Counted}
 
 -- ---- the numbers of an answer
 module _ (t : Task) (blocks : ℕ) where
@@ -38,7 +38,7 @@ module _ (t : Task) (blocks : ℕ) where
   cuts-told («open» e) = refl
 
   rows-told : (a : run.Answer) → rowValueCount (told t blocks a) ≡ length (listed rowPlace (rowsOf t a))
-  unfolding told rowValueCount rowsOf listed
+  unfolding told rowCount rowValueCount rowsOf listed
   rows-told (plan ss) = sym (three t ss)
   rows-told noPlan = refl
   rows-told («open» e) = refl
@@ -50,7 +50,7 @@ module _ (t : Task) (blocks : ℕ) where
   counted-told («open» e) h g short = (h, g)
 
   rows-few : (room : ℕ) (a : run.Answer) → 1 ≤ room → ((ss : List Step) → a ≡ plan ss → length ss < room) → rowValueCount (told t blocks a) ≤ (room - 1) * 3
-  unfolding told rowValueCount
+  unfolding told rowCount rowValueCount
   rows-few room (plan ss) h short = let q = short ss refl in omega arith
   rows-few room noPlan h short = omega arith
   rows-few room («open» e) h short = omega arith
@@ -129,7 +129,7 @@ module _ (s : List ℕ) (room : ℕ) (c r : List ℕ) where
       rows-long = ap rowValueCount (w .answer) ∙ rows-told t (blockCount o) (o .answer)
 
     pub known : Known a c′ r′
-    unfolding Counted cutValueCount rowValueCount blockCount over
+    unfolding Counted cutValueCount rowCount rowValueCount blockCount over
     known = ⊎-elim yes-ran not-ran ran-or-not
       where
         yes-ran : Ran a c′ r′ → Known a c′ r′

@@ -14,11 +14,14 @@ cutValueCount (NoPlan blocks) = (blocks - 1) * 3
 cutValueCount (Open estimate blocks) = (blocks - 1) * 3
 
 -- a plan has one row for each step
+unfoldable pub rowCount : Answer → ℕ
+rowCount (Refused n) = 0
+rowCount (Plan cost steps blocks) = steps
+rowCount (NoPlan blocks) = 0
+rowCount (Open estimate blocks) = 0
+
 unfoldable pub rowValueCount : Answer → ℕ
-rowValueCount (Refused n) = 0
-rowValueCount (Plan cost steps blocks) = steps * 3
-rowValueCount (NoPlan blocks) = 0
-rowValueCount (Open estimate blocks) = 0
+rowValueCount a = rowCount a * 3
 
 -- the numbers of an answer are those of a room of at most 256 blocks
 unfoldable pub Counted : Answer → Type 0

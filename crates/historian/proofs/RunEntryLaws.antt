@@ -18,7 +18,7 @@ use Rattle.fields.proofs.JudgingLaws.{applies, refusal-append, inside-means}
 use Rattle.sheets.specs.ModelSheet.{sheetChecks}
 use Rattle.running.specs.declared.Answer.{Answer}
 use Rattle.running.specs.Running.{roomChecks, runChecks, outcome, running}
-use Rattle.counts.specs.Counts.{cutValueCount, rowValueCount, Counted, usable}
+use Rattle.counts.specs.Counts.{cutValueCount, rowCount, rowValueCount, Counted, usable}
 use Rattle.counts.proofs.CountLaws as count
 use Rattle.counts.proofs.UsableLaws.{usable-is, same-test}
 use Rattle.historian.specs.Entries.{bytesAt, bytesOf, fewPlaces, answerNumber, entryChecks, madeBytes, runOutcome, runEntry}
@@ -73,7 +73,7 @@ module _ (s : List ℕ) (room : ℕ) (cuts rows c r : List ℕ) (lc : length c �
     -- the entry's outcome
     pub entry-told : (cs rs : List ℕ) {cuts′ rows′ : List ℕ} {n : ℕ} → cuts′ ≡ puts 0 (each (cutValueCount a) (bytesAt (c′ ++ cs))) cuts → rows′ ≡ puts 0 (each (rowValueCount a) (bytesAt (r′ ++ rs))) rows
         → n ≡ answerNumber a → runOutcome n cuts′ rows′ ≡ runEntry s room cuts rows
-    unfolding runEntry madeBytes cutValueCount rowValueCount answerNumber
+    unfolding runEntry madeBytes cutValueCount rowCount rowValueCount answerNumber
     entry-told cs rs {cuts′} {rows′} {n} p q k = ⊎-elim yes-ran not-ran (count.ran-or-not s room c r e)
       where
         yes-ran : count.Ran s room c r a c′ r′ → runOutcome n cuts′ rows′ ≡ runEntry s room cuts rows

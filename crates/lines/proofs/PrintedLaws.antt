@@ -21,7 +21,7 @@ use Rattle.io.specs.Counts.{Counts}
 use Rattle.running.specs.declared.Answer.{Answer}
 use Rattle.running.specs.declared.Answer.the-variants.{Plan, NoPlan, Open, Refused}
 use Rattle.running.specs.Running.{roomChecks, runChecks, outcome, running}
-use Rattle.counts.specs.Counts.{rowValueCount, Counted}
+use Rattle.counts.specs.Counts.{rowCount, rowValueCount, Counted}
 use Rattle.counts.proofs.CountLaws as count
 use Rattle.lines.specs.Lines.{decimal, labelled, planText, noPlanText, openText, refusedText, stepsText, blocksText, space, lineEnd, firstLine, rowLine, rowLines, madeLines, ranLines, printed, Put}
 use Rattle.lines.proofs.LineLaws.{join, same-long, decimal-short}
@@ -95,7 +95,7 @@ module _ (s : List ℕ) (room : ℕ) (c r : List ℕ) (h : (length c ≡ 765) ×
         simp (eq-eqb N 0 (checks-same ∙ b .ok)) (ap₂ (λ (u : Answer) (m : List ℕ). firstLine u ++ m) (b .answer) x)
 
     lines-not : count.NotRan s room c r a c′ r′ → {k : ℕ} → k ≡ rowValueCount a / 3 → firstLine a ++ each k (rowLine r′) ≡ ranLines s room
-    unfolding ranLines rowValueCount each
+    unfolding ranLines rowCount rowValueCount each
     lines-not b {k} q =
         let z : k ≡ 0 = q ∙ ap (λ (u : Answer). rowValueCount u / 3) (b .answer) in
         ap₂ (λ (u : Answer) (j : ℕ). firstLine u ++ each j (rowLine r′)) (b .answer) z ∙ append-nil _ ∙ ap (λ (j : ℕ). firstLine (Refused j)) (sym checks-same) ∙ sym (simp (ne-eqb N 0 (λ v. b .bad (sym checks-same ∙ v))))

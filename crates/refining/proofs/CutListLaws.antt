@@ -4,7 +4,7 @@ use native.Mathlib.Nat.{zero-add}
 use native.Mathlib.Omega.{arith}
 use mathlib.Core.Path.{_≡_, refl, sym, ap, _∙_}
 use mathlib.Core.List.{List, [], _∷_, _++_}
-use lib.ListN.{length, getD, set, length-set}
+use lib.ListN.{length, getD, set, length-set, length-append}
 use lib.Seq.{getD-set-same, getD-set-other}
 use Rattle.task.proofs.LoopLaws.{tab-ext}
 use Rattle.fields.specs.Places.{puts}
@@ -67,10 +67,15 @@ unfolding listed cutPlace
 listed-append [] b = refl
 listed-append (c ∷ a) b = ap (λ (x : List ℕ). c .block .0 ∷ c .column .0 ∷ c .wanted ∷ x) (listed-append a b)
 
+-- a list of places of three values each
+pub listed-three : {A : Type 0} (f : A → List ℕ) → ((x : A) → length (f x) ≡ 3) → (xs : List A) → length (listed f xs) ≡ length xs * 3
+unfolding listed
+listed-three f h [] = refl
+listed-three f h (x ∷ xs) = length-append (f x) (listed f xs) ∙ omega (arith, h x, listed-three f h xs)
+
 pub listed-length : (cs : List Cut) → length (listed cutPlace cs) ≡ length cs * 3
-unfolding listed cutPlace
-listed-length [] = refl
-listed-length (c ∷ cs) = omega (arith, listed-length cs)
+unfolding cutPlace
+listed-length = listed-three cutPlace (λ c. refl)
 
 -- the list that was lent, with one cut more put into it
 pub list-more : (n : ℕ) (c : Cut) (l l₀ : List ℕ) → l ≡ puts 0 (listed cutPlace (cutsIn n l)) l₀ → puts (n * 3) (cutPlace c) l ≡ puts 0 (listed cutPlace (cutsIn n l ++ (c ∷ []))) l₀

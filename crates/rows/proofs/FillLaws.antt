@@ -16,6 +16,7 @@ use Rattle.task.specs.Task.{step}
 use Rattle.task.proofs.LoopLaws.{true-or-false, all-at, all-intro, tab-length, tab-at, over-none, over-more, over-length}
 use Rattle.run.specs.declared.Row.{Row}
 use Rattle.refining.specs.Listing.{listed, rowPlace}
+use Rattle.refining.proofs.CutListLaws.{listed-three}
 use Rattle.rows.specs.Rows.{rowIn, stepsNamed, fitting, filled, filling}
 
 -- ---- how many rows are put
@@ -106,9 +107,8 @@ rows-listed rs vs =
     ext-getD d (tab (length rs) f) rs (tab-length (length rs) f) (λ i h. let k : i < length rs = omega (arith, tab-length (length rs) f) in tab-at (length rs) f d i k ∙ row-listed rs vs d i k)
 
 pub listed-long : (rs : List Row) → length (listed rowPlace rs) ≡ length rs * 3
-unfolding listed rowPlace
-listed-long [] = refl
-listed-long (r ∷ rs) = omega (arith, listed-long rs)
+unfolding rowPlace
+listed-long = listed-three rowPlace (λ r. refl)
 
 -- rows that each name a step are all put, where they have places
 module _ (rows rs : List Row) (vs : List ℕ) (d : Row) (room : length rs ≤ length rows) (named : (i : ℕ) → i < length rs → getD rs i d .step .0 < limits .steps) where

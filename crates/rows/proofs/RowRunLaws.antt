@@ -30,10 +30,11 @@ use Rattle.running.specs.declared.Answer.{Answer}
 use Rattle.running.specs.declared.Answer.the-variants.{Refused}
 use Rattle.running.specs.Running as running
 use Rattle.running.specs.Running.{roomChecks, runChecks, told}
-use Rattle.counts.specs.Counts.{usable}
+use Rattle.running.proofs.RowLaws.{row-each}
+use Rattle.counts.specs.Counts.{rowCount, usable}
 use Rattle.counts.proofs.CountLaws as count
 use Rattle.counts.proofs.UsableLaws.{usable-is, at-most, same-test}
-use Rattle.rows.specs.Rows.{filling, rowChecks, outcome, rowRun, rowCount}
+use Rattle.rows.specs.Rows.{filling, rowChecks, outcome, rowRun}
 use Rattle.rows.proofs.FillLaws.{listed-long, listed-put, nothing-put}
 
 -- ---- a plan's rows each name a step
@@ -53,14 +54,9 @@ module _ (t : Task) where
   rows-known room cs noPlan r i k = absurd (not-suc-le-zero k)
   rows-known room cs («open» e) r i k = absurd (not-suc-le-zero k)
 
-  row-each : (ss : List Step) → length (rows t ss) ≡ length ss
-  unfolding rows
-  row-each [] = refl
-  row-each (s ∷ ss) = ap suc (row-each ss)
-
   rows-counted : (b : ℕ) (a : run.Answer) → rowCount (told t b a) ≡ length (rowsOf t a)
   unfolding told rowCount rowsOf
-  rows-counted b (plan ss) = sym (row-each ss)
+  rows-counted b (plan ss) = sym (row-each t ss)
   rows-counted b noPlan = refl
   rows-counted b («open» e) = refl
 

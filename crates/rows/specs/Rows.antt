@@ -16,7 +16,7 @@ use Rattle.run.specs.Run as run
 use Rattle.run.specs.Run.{blockCount, rowsOf}
 use Rattle.refining.specs.Listing.{listed, cutPlace}
 use Rattle.running.specs.declared.Answer.{Answer}
-use Rattle.running.specs.declared.Answer.the-variants.{Plan, NoPlan, Open, Refused}
+use Rattle.running.specs.declared.Answer.the-variants.{Refused}
 use Rattle.running.specs.Running.{roomCheck, told}
 
 -- ---- rows put from a list of values, three for each: step, tenths, tenths left
@@ -65,12 +65,3 @@ rowRun s room cuts rows =
     let t = taskOn s in
     let o = run.run t room in
     pick (eqb n 0) (outcome (told t (blockCount o) (o .answer)) (over (listed cutPlace (o .made)) cuts) (over (rowsOf t (o .answer)) rows)) (outcome (Refused n) cuts rows)
-
--- ---- what code counts
-
--- a plan has one row for each step
-unfoldable pub rowCount : Answer → ℕ
-rowCount (Plan cost steps blocks) = steps
-rowCount (NoPlan blocks) = 0
-rowCount (Open estimate blocks) = 0
-rowCount (Refused n) = 0

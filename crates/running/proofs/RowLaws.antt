@@ -15,6 +15,7 @@ use Rattle.fields.proofs.PlaceLaws.{puts-over}
 use Rattle.run.specs.Run.{rows}
 use Rattle.walk.specs.Walking.{stepIn}
 use Rattle.refining.specs.Listing.{listed, rowPlace, pathSteps}
+use Rattle.refining.proofs.CutListLaws.{listed-three}
 use Rattle.running.specs.Running.{Costed}
 
 -- ---- a value put before others
@@ -29,10 +30,14 @@ unfolding puts
 puts-before [] at l k v h = refl
 puts-before (x ∷ xs) at l k v h = puts-before xs (at + 1) (set l at x) k v (omega arith) ∙ ap (puts (at + 1) xs) (set-swap l k at v x h)
 
+pub row-each : (t : Task) (ss : List Step) → length (rows t ss) ≡ length ss
+unfolding rows
+row-each t [] = refl
+row-each t (s ∷ ss) = ap suc (row-each t ss)
+
 pub three : (t : Task) (ss : List Step) → length (listed rowPlace (rows t ss)) ≡ length ss * 3
-unfolding rows listed rowPlace
-three t [] = refl
-three t (s ∷ ss) = omega (arith, three t ss)
+unfolding rowPlace
+three t ss = listed-three rowPlace (λ r. refl) (rows t ss) ∙ ap (λ (n : ℕ). n * 3) (row-each t ss)
 
 -- ---- the loop
 module _ (count : ℕ) (path cost list₀ : List ℕ) where

@@ -1,5 +1,5 @@
 use mathlib.Core.Path.{refl}
-use Rattle.counts.specs.Counts.{rowValueCount, Counted}
+use Rattle.counts.specs.Counts.{rowCount, rowValueCount, Counted}
 use borrow.Author.Needs.{needs}
 use Rattle.counts.proofs.row_values.Statement.{statement}
 use Rattle.counts.proofs.row_values.Tie as tie
@@ -23,20 +23,20 @@ enum-told-3 : tie.Need-enum-told-3
 enum-told-3 c = search needs
 
 returns : tie.Need-returns
-unfolding rowValueCount
+unfolding rowValueCount rowCount
 returns c = let e = c .before .answer .given .1 in rw e refl
 
 returns-2 : tie.Need-returns-2
-unfolding rowValueCount
-returns-2 c = search needs
+unfolding rowValueCount rowCount
+returns-2 c = let e = c .enum-told .given .1 in rw e refl
 
 returns-3 : tie.Need-returns-3
-unfolding rowValueCount
-returns-3 c = search needs
+unfolding rowValueCount rowCount
+returns-3 c = let e = c .enum-told2 .given .1 in rw e refl
 
 returns-4 : tie.Need-returns-4
-unfolding rowValueCount
-returns-4 c = search needs
+unfolding rowValueCount rowCount
+returns-4 c = let e = c .enum-told3 .given .1 in rw e refl
 
 pub row-values-spec : {M : Type 1} → statement M
 row-values-spec =

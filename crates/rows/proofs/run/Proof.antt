@@ -49,7 +49,8 @@ use Rattle.run.proofs.Row as T
 use Rattle.running.specs.declared.Answer.{Answer}
 use Rattle.running.proofs.Answer as E
 use Rattle.running.proofs.Answer.Laws as E′
-use Rattle.rows.specs.Rows.{filled, filling, outcome, rowRun, rowCount}
+use Rattle.counts.specs.Counts.{rowCount}
+use Rattle.rows.specs.Rows.{filled, filling, outcome, rowRun}
 use Rattle.rows.proofs.LentLaws.{arrayTy, MutOf, ShrOf, Elems, lend-mut, lend-shr, elems-room}
 use Rattle.rows.proofs.run_for as run-for
 use Rattle.rows.proofs.run_for.Symbol as run-for-def
