@@ -24,7 +24,7 @@ use Rattle.cut_reading.specs.Rebuilding.{SheetJudged}
 use Rattle.cut_reading.proofs.RebuildLaws.{sheets-ok, start-within}
 use Rattle.sheet_laws.proofs.Given.{read-code, given-task, given-accepted, given-columns}
 use Rattle.asking.specs.declared.Asked.the-variants.{Estimates, Refused}
-use Rattle.asking.specs.Question.{statesIn, badStates, estimatesOf, questionChecks, outcome, asking}
+use Rattle.asking.specs.Question.{statesIn, badStates, estimatesOf, questionChecks, outcome, asking, Asks}
 
 -- the answer of the code that judges states
 eleven : (b : Bool) {r : ℕ} → r ≡ pick b 11 0 → (r ≡ 0 → ⊥) → (b ≡ true) × (r ≡ 11)
@@ -36,13 +36,13 @@ fine true e z = absurd (omega arith)
 fine false e z = refl
 
 module _ (m s states est : List ℕ) where
-  refusing : {r : ℕ} → r ≡ refusal (questionChecks m s states est) → (r ≡ 0 → ⊥) → outcome (Refused r) est ≡ asking m s states est
+  refusing : {r : ℕ} → r ≡ refusal (questionChecks m s states est) → (r ≡ 0 → ⊥) → Asks m s states est (Refused r) est
   unfolding asking
   refusing e z = refused-is (λ n. outcome (Refused n) est) (questionChecks m s states est) _ e z
 
   module _ {r : ℕ} {exit : List ℕ} (j : SheetJudged m s r exit) where
     -- a refusal of the sheets
-    pub sheets-refused : (r ≡ 0 → ⊥) → outcome (Refused r) est ≡ asking m s states est
+    pub sheets-refused : (r ≡ 0 → ⊥) → Asks m s states est (Refused r) est
     unfolding questionChecks
     sheets-refused z =
         refusing (j .refused ∙ sym (refusal-append (cutSheetChecks m s) _ ∙ stop (refusal (cutSheetChecks m s)) _ (λ q. z (j .refused ∙ q)))) z
@@ -77,7 +77,7 @@ module _ (m s states est : List ℕ) where
           said = b (taskOf (read .model)) (columns-of (read .model)) (λ j h. size-of (read .model) (column j) h)
 
           -- a refusal of the states
-          pub states-refused : (bad ≡ 0 → ⊥) → outcome (Refused bad) est ≡ asking m s states est
+          pub states-refused : (bad ≡ 0 → ⊥) → Asks m s states est (Refused bad) est
           states-refused n =
               let q = eleven (badStates (taskOf (read .model)) states) said n in
               refusing (q .1 ∙ after (applies 11 (badStates (taskOn m) states) _ (ap (λ (t : Task). badStates t states) (sym same) ∙ q .0) (λ h. omega arith))) n
@@ -90,7 +90,7 @@ module _ (m s states est : List ℕ) where
             good-on = ap (λ (t : Task). badStates t states) (sym same) ∙ good
 
             -- too few places
-            pub places-refused : length est < length states / read .model .columns → outcome (Refused 8) est ≡ asking m s states est
+            pub places-refused : length est < length states / read .model .columns → Asks m s states est (Refused 8) est
             places-refused h =
                 refusing
                 (after (passes 11 (badStates (taskOn m) states) _ good-on (applies 8 (ltb (length est) (statesIn (taskOn m) states)) [] (lt-ltb (length est) (statesIn (taskOn m) states) (omega (arith, asked))) (λ q. omega arith))))
@@ -109,7 +109,7 @@ module _ (m s states est : List ℕ) where
 
                 -- the estimates are there
                 pub answered : {next : List ℕ} → next ≡ over (estimatesOf (taskOf (read .model)) (cutsNamed (cutOn part) (countOf part)) states) est
-                    → outcome (Estimates (length states / read .model .columns)) next ≡ asking m s states est
+                    → Asks m s states est (Estimates (length states / read .model .columns)) next
                 unfolding asking cutsOf
                 answered f =
                     let q : 0 ≡ refusal (questionChecks m s states est) =

@@ -1,5 +1,6 @@
 -- 01, "Sheets": a question takes a model sheet, a cut sheet and states of one byte per column, and writes one estimate per state.
 use Prim.Native.Nat.{ℕ, _+_, _*_, _/_, _%_}
+use mathlib.Core.Path.{_≡_}
 use mathlib.Core.Bool.{Bool, not, _||_}
 use mathlib.Core.List.{List, [], _∷_, _++_}
 use mathlib.Core.Option.{Option, none, some, Option·getD}
@@ -83,3 +84,7 @@ asking model s states estimates =
     pick (eqb n 0)
     (outcome (Estimates (statesIn (taskOn model) states)) (over (estimatesOf (taskOn model) (cutsOf s) states) estimates))
     (outcome (Refused n) estimates)
+
+-- what `question` promises, whatever is passed: the answer and the list at exit
+abbrev pub Asks : (model s states estimates : List ℕ) → Asked → (estimates′ : List ℕ) → Type 0
+Asks model s states estimates r estimates′ = outcome r estimates′ ≡ asking model s states estimates

@@ -12,7 +12,7 @@ ghost use Rattle.blocks.specs.Flat.{blocksIn};
 ghost use Rattle.settling.specs.Coded.{codedOver};
 ghost use Rattle.cut_sheets.specs.CutPart.{cutsNamed, cutOn, countOf, judgeCuts};
 ghost use Rattle.cut_sheets.specs.Judged.{Made};
-ghost use Rattle.asking.specs.Question.{statesIn, badStates, wideState, costFound, estimatesOf, outcome, asking};
+ghost use Rattle.asking.specs.Question.{statesIn, badStates, wideState, costFound, estimatesOf, Asks};
 use blocks::block_of;
 use blocks::fill_goals;
 use blocks::fill_lands;
@@ -152,7 +152,7 @@ fn answer(
 
 // Judges a model sheet, a cut sheet and states, and writes one estimate for each state.
 pub fn question(model: &[u8], sheet: &[u8], states: &[u8], estimates: &mut [u32]) -> Asked
-    ensures { λ r. ⌜ outcome r (now (estimates .exit)) ≡ asking (now (model .entry)) (now (sheet .entry)) (now (states .entry)) (now (estimates .entry)) ⌝ }
+    ensures { λ r. ⌜ Asks (now (model .entry)) (now (sheet .entry)) (now (states .entry)) (now (estimates .entry)) r (now (estimates .exit)) ⌝ }
 {
     let mut sets = [0u32; Model::BLOCKS * Model::COLUMNS];
     let r = judge_cut_sheet(model, sheet, &mut sets);

@@ -90,7 +90,7 @@ module _ (s : List ℕ) (room : ℕ) (c r : List ℕ) where
     pub cuts-in : cutValueCount a ≤ length c′
     pub rows-in : rowValueCount a ≤ length r′
 
-  module _ {a : Answer} {c′ r′ : List ℕ} (e : outcome a c′ r′ ≡ running.running s room c r) where
+  module _ {a : Answer} {c′ r′ : List ℕ} (e : running.Runs s room c r a c′ r′) where
     pub ran-or-not : Ran a c′ r′ ⊎ NotRan a c′ r′
     unfolding running.running made
     ran-or-not = split (ℕ-discrete (refusal (runChecks s room c r)) 0)

@@ -29,7 +29,7 @@ use Rattle.cut_sheets.specs.CutSheet.{tailOf, atFront, cutSheetChecks, cutValue
 use Rattle.cut_sheets.specs.Judged.{Made, PartJudged}
 use Rattle.cut_sheets.proofs.CutSheetLaws.{tail-is, front-refusal, model-refused, inner-refused, ten-refused, front-take, sheet-accepted, values-length}
 use Rattle.cut_reading.specs.declared.CutsRebuilt.the-variants.{Cuts, Refused}
-use Rattle.cut_reading.specs.Rebuilding.{SheetJudged, outcome, rebuilding}
+use Rattle.cut_reading.specs.Rebuilding.{SheetJudged, outcome, rebuilding, Rebuilds}
 
 -- ---- bytes at the front of others
 unfoldable pub sameTo : List ℕ → List ℕ → ℕ → Bool
@@ -104,13 +104,13 @@ module _ (m s : List ℕ) where
 
 -- ---- rebuilding
 module _ (m s cuts : List ℕ) where
-  pub refusing : {r : ℕ} → r ≡ refusal (rebuildChecks m s cuts) → (r ≡ 0 → ⊥) → outcome (Refused r) cuts ≡ rebuilding m s cuts
+  pub refusing : {r : ℕ} → r ≡ refusal (rebuildChecks m s cuts) → (r ≡ 0 → ⊥) → Rebuilds m s cuts (Refused r) cuts
   unfolding rebuilding
   refusing e z = refused-is (λ n. outcome (Refused n) cuts) (rebuildChecks m s cuts) _ e z
 
   module _ {r : ℕ} {exit : List ℕ} (j : SheetJudged m s r exit) where
     -- a refusal of the sheets
-    pub sheets-refused : (r ≡ 0 → ⊥) → outcome (Refused r) cuts ≡ rebuilding m s cuts
+    pub sheets-refused : (r ≡ 0 → ⊥) → Rebuilds m s cuts (Refused r) cuts
     unfolding rebuildChecks
     sheets-refused z =
         refusing (j .refused ∙ sym (refusal-append (cutSheetChecks m s) _ ∙ stop (refusal (cutSheetChecks m s)) _ (λ q. z (j .refused ∙ q)))) z
@@ -134,12 +134,12 @@ module _ (m s cuts : List ℕ) where
         count-is = e ∙ ap countOf p
 
         -- too few places
-        pub places-refused : length cuts < n * 3 → outcome (Refused 8) cuts ≡ rebuilding m s cuts
+        pub places-refused : length cuts < n * 3 → Rebuilds m s cuts (Refused 8) cuts
         places-refused h =
             refusing (places (applies 8 (ltb (length cuts) (countOf (tailOf s) * 3)) [] (lt-ltb (length cuts) (countOf (tailOf s) * 3) (omega (arith, count-is))) (λ q. omega arith))) (λ q. omega arith)
 
         -- the cuts are there
-        pub filled : {next : List ℕ} → n * 3 ≤ length cuts → next ≡ puts 0 (each n (cutValues (cutOn part))) cuts → outcome (Cuts n) next ≡ rebuilding m s cuts
+        pub filled : {next : List ℕ} → n * 3 ≤ length cuts → next ≡ puts 0 (each n (cutValues (cutOn part))) cuts → Rebuilds m s cuts (Cuts n) next
         unfolding rebuilding over cutList
         filled h f =
             let q : 0 ≡ refusal (rebuildChecks m s cuts) = places (passes 8 (ltb (length cuts) (countOf (tailOf s) * 3)) [] (le-ltb (length cuts) (countOf (tailOf s) * 3) (omega (arith, count-is))) no-checks) in

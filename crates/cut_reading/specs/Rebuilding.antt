@@ -35,3 +35,7 @@ unfoldable pub rebuilding : List ℕ → List ℕ → List ℕ → Outcome
 rebuilding model s cuts =
     let n = refusal (rebuildChecks model s cuts) in
     pick (eqb n 0) (outcome (Cuts (countOf (tailOf s))) (over (cutList s) cuts)) (outcome (Refused n) cuts)
+
+-- what `rebuild` promises, whatever is passed: the answer and the list at exit
+abbrev pub Rebuilds : (model s cuts : List ℕ) → CutsRebuilt → (cuts′ : List ℕ) → Type 0
+Rebuilds model s cuts r cuts′ = outcome r cuts′ ≡ rebuilding model s cuts

@@ -7,7 +7,7 @@ ghost use Rattle.fields.specs.Judging.{each};
 ghost use Rattle.fields.specs.Places.{puts};
 ghost use Rattle.cut_sheets.specs.CutPart.{cutOn};
 ghost use Rattle.cut_sheets.specs.CutSheet.{atFront, cutValues};
-ghost use Rattle.cut_reading.specs.Rebuilding.{SheetJudged, outcome, rebuilding};
+ghost use Rattle.cut_reading.specs.Rebuilding.{SheetJudged, Rebuilds};
 use blocks::fill_first;
 use cut_sheets::judge_cut_part;
 use fields::field::field;
@@ -91,7 +91,7 @@ fn fill_cut(part: &[u8], i: usize, cuts: &mut [u32])
 
 // Judges a model sheet and a cut sheet, and fills the list with the cuts: block, column and wanted set for each.
 pub fn rebuild(model: &[u8], sheet: &[u8], cuts: &mut [u32]) -> CutsRebuilt
-    ensures { λ r. ⌜ outcome r (now (cuts .exit)) ≡ rebuilding (now (model .entry)) (now (sheet .entry)) (now (cuts .entry)) ⌝ }
+    ensures { λ r. ⌜ Rebuilds (now (model .entry)) (now (sheet .entry)) (now (cuts .entry)) r (now (cuts .exit)) ⌝ }
 {
     let mut sets = [0u32; Model::BLOCKS * Model::COLUMNS];
     let r = judge_cut_sheet(model, sheet, &mut sets);

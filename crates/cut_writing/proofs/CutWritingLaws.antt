@@ -27,7 +27,7 @@ use Rattle.sheets.specs.LentTables.{tooFew}
 use Rattle.sheets.specs.Holding.{taskOn}
 use Rattle.sheet_laws.proofs.Held.{accepted-task}
 use Rattle.cut_writing.specs.declared.CutsWritten.the-variants.{Sheet, Refused}
-use Rattle.cut_writing.specs.CutWriting.{outcome, writingCuts}
+use Rattle.cut_writing.specs.CutWriting.{outcome, writingCuts, WritesCuts}
 use Rattle.cut_sheets.specs.Judged.{CutsJudged}
 use Rattle.cut_sheets.proofs.CutPartLaws.{H, C, F, at-cuts, at-fill, part-fine, part-bits, cut-whole}
 use Rattle.cut_sheets.proofs.CutRoundLaws as round
@@ -154,11 +154,11 @@ module _ (model : List ℕ) (count : ℕ) (cuts sheet : List ℕ) where
   abbrev bytes : ℕ
   bytes = length model + cutBytes count
 
-  refusing : {r : ℕ} → r ≡ refusal (writeCutsChecks model count cuts sheet) → (r ≡ 0 → ⊥) → outcome (Refused r) sheet ≡ writingCuts model count cuts sheet
+  refusing : {r : ℕ} → r ≡ refusal (writeCutsChecks model count cuts sheet) → (r ≡ 0 → ⊥) → WritesCuts model count cuts sheet (Refused r) sheet
   unfolding writingCuts
   refusing e z = refused-is (λ n. outcome (Refused n) sheet) (writeCutsChecks model count cuts sheet) _ e z
 
-  pub given-refused : {r : ℕ} → r ≡ refusal (givenChecks model count cuts) → (r ≡ 0 → ⊥) → outcome (Refused r) sheet ≡ writingCuts model count cuts sheet
+  pub given-refused : {r : ℕ} → r ≡ refusal (givenChecks model count cuts) → (r ≡ 0 → ⊥) → WritesCuts model count cuts sheet (Refused r) sheet
   unfolding writeCutsChecks
   given-refused e z =
       refusing (e ∙ sym (refusal-append (givenChecks model count cuts) _ ∙ stop (refusal (givenChecks model count cuts)) _ (λ q. z (e ∙ q)))) z
@@ -168,7 +168,7 @@ module _ (model : List ℕ) (count : ℕ) (cuts sheet : List ℕ) where
     unfolding writeCutsChecks
     places q = q ∙ sym (refusal-append (givenChecks model count cuts) _ ∙ go (refusal (givenChecks model count cuts)) _ (sym e ∙ z))
 
-    pub room-refused : length sheet < bytes → outcome (Refused 8) sheet ≡ writingCuts model count cuts sheet
+    pub room-refused : length sheet < bytes → WritesCuts model count cuts sheet (Refused 8) sheet
     room-refused h = refusing (places (applies 8 (ltb (length sheet) bytes) [] (lt-ltb (length sheet) bytes h) (λ q. omega arith))) (λ q. omega arith)
 
     task-ok : judgeSheet model ≡ 0 → Accepted (taskOn model)
@@ -194,7 +194,7 @@ module _ (model : List ℕ) (count : ℕ) (cuts sheet : List ℕ) where
 
     pub put-written : Bytes sheet → bytes ≤ length sheet → ((i : ℕ) → i < count → getD cuts (i * 3 + 2) 0 < 2 ^ 32) → {n : ℕ} {front part exit : List ℕ} → n ≡ bytes
         → front ≡ over model sheet → part ≡ packed 0 E (take (length front - length model) (drop (length model) front)) → exit ≡ putMid (length model) (length front - length model) front part
-        → outcome (Sheet n) exit ≡ writingCuts model count cuts sheet
+        → WritesCuts model count cuts sheet (Sheet n) exit
     unfolding writingCuts cutSheetOf over
     put-written b h w {n} {front} {part} {exit} q f p x =
         let d = drop (length model) sheet in

@@ -1,5 +1,6 @@
 -- Writing a cut sheet from a model sheet and a lent list of cuts: the answer, and what the lent bytes then hold.
 use Prim.Native.Nat.{ℕ, _+_}
+use mathlib.Core.Path.{_≡_}
 use mathlib.Core.List.{List}
 use lib.Dec.{eqb}
 use lib.ListN.{length}
@@ -27,3 +28,7 @@ unfoldable pub writingCuts : List ℕ → ℕ → List ℕ → List ℕ → Outc
 writingCuts model count cuts sheet =
     let n = refusal (writeCutsChecks model count cuts sheet) in
     pick (eqb n 0) (outcome (Sheet (length model + cutBytes count)) (over (cutSheetOf model count cuts) sheet)) (outcome (Refused n) sheet)
+
+-- what `write_cuts` promises, whatever is passed: the answer and the bytes at exit
+abbrev pub WritesCuts : (model : List ℕ) (count : ℕ) (cuts sheet : List ℕ) → CutsWritten → (sheet′ : List ℕ) → Type 0
+WritesCuts model count cuts sheet r sheet′ = outcome r sheet′ ≡ writingCuts model count cuts sheet

@@ -9,7 +9,7 @@ ghost use Rattle.fields.specs.Judging.{refusal, each};
 ghost use Rattle.fields.specs.Packing.{packed};
 ghost use Rattle.cut_sheets.specs.CutPart.{cutPart, cutEntries};
 ghost use Rattle.cut_sheets.specs.CutSheet.{cutLent, ofCuts, givenChecks};
-ghost use Rattle.cut_writing.specs.CutWriting.{outcome, writingCuts};
+ghost use Rattle.cut_writing.specs.CutWriting.{WritesCuts};
 use blocks::fill_first;
 use cut_sheets::judge_lent_cuts;
 use fields::put::put_field;
@@ -87,7 +87,7 @@ fn judge_given(model: &[u8], count: usize, cuts: &[u32]) -> u8
 
 // Writes the cut sheet of a model sheet and of so many cuts of a list: block, column and wanted set for each.
 pub fn write_cuts(model: &[u8], count: usize, cuts: &[u32], sheet: &mut [u8]) -> CutsWritten
-    ensures { λ r. ⌜ outcome r (now (sheet .exit)) ≡ writingCuts (now (model .entry)) count (now (cuts .entry)) (now (sheet .entry)) ⌝ }
+    ensures { λ r. ⌜ WritesCuts (now (model .entry)) count (now (cuts .entry)) (now (sheet .entry)) r (now (sheet .exit)) ⌝ }
 {
     let a = judge_given(model, count, cuts);
     if a != 0 {

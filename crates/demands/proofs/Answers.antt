@@ -23,13 +23,13 @@ use Rattle.sheets.specs.Holding.{taskOn}
 use Rattle.cut_sheets.specs.CutSheet.{cutSheetChecks, cutsOf}
 use Rattle.run.proofs.RunLaws.{NoPlan as NonePlans}
 use Rattle.running.specs.declared.Answer.the-variants.{Plan, NoPlan, Open}
-use Rattle.running.specs.Running.{number, outcome, running}
+use Rattle.running.specs.Running.{number, Runs}
 use Rattle.run_laws.proofs.Answers as said
 use Rattle.asking.specs.declared.Asked.the-variants.{Estimates}
 use Rattle.asking.specs.Question as question
-use Rattle.asking.specs.Question.{stateIn, statesIn, badStates, estimateAt, estimatesOf, valued, asking}
+use Rattle.asking.specs.Question.{stateIn, statesIn, badStates, estimateAt, estimatesOf, valued, Asks}
 use Rattle.question_laws.proofs.Estimates as estimates
-use Rattle.historian.specs.Entries.{bytesOf, fewPlaces, runOutcome, runEntry, askChecks, AskOutcome, askOutcome, askEntry}
+use Rattle.historian.specs.Entries.{bytesOf, fewPlaces, askChecks, AskOutcome, EntryRuns, EntryAsks}
 use Rattle.demands.proofs.Numbers.{kind, value, valueOn, value-back}
 use Rattle.demands.proofs.Refusals.{elhavir-question-judged}
 use Rattle.demands.proofs.Entry as entry
@@ -37,15 +37,15 @@ use Rattle.demands.proofs.Cuts as cut
 
 -- ---- "A plan can be carried out from the start, reaches the goal, and no plan is cheaper", and its rows are in the list
 module _ (s : List ℕ) (room : ℕ) (cuts rows : List ℕ) {c l : List ℕ} where
-  pub plan-right : {cost n b : ℕ} → outcome (Plan cost n b) c l ≡ running s room cuts rows → said.Planned (taskOn s) cost n rows l
+  pub plan-right : {cost n b : ℕ} → Runs s room cuts rows (Plan cost n b) c l → said.Planned (taskOn s) cost n rows l
   plan-right done = said.run-says s room cuts rows done (unfold number in refl) .says .1
 
   -- "'No plan' is said only where none exists"
-  pub no-plan-right : {b : ℕ} → outcome (NoPlan b) c l ≡ running s room cuts rows → NonePlans (taskOn s)
+  pub no-plan-right : {b : ℕ} → Runs s room cuts rows (NoPlan b) c l → NonePlans (taskOn s)
   no-plan-right done = said.run-says s room cuts rows done (unfold number in refl) .says .2
 
 -- the same of the historian's run
-module _ (s : List ℕ) (room : ℕ) (cuts rows : List ℕ) {r : ℕ} {c l : List ℕ} (done : runOutcome r c l ≡ runEntry s room cuts rows) where
+module _ (s : List ℕ) (room : ℕ) (cuts rows : List ℕ) {r : ℕ} {c l : List ℕ} (done : EntryRuns s room cuts rows r c l) where
   pub entry-plan-right : kind r ≡ 1 → entry.PlanTold (taskOn s) r rows l
   entry-plan-right k = entry.entry-says s room cuts rows done (λ z. omega arith) .tells .plan-right k
 
@@ -59,14 +59,14 @@ pub open-kept : (e b : ℕ) → number (Open e b) ≡ 0
 unfolding number
 open-kept e b = refl
 
-module _ (s : List ℕ) (room : ℕ) (cuts rows : List ℕ) {e b : ℕ} {c l : List ℕ} (done : outcome (Open e b) c l ≡ running s room cuts rows) where
+module _ (s : List ℕ) (room : ℕ) (cuts rows : List ℕ) {e b : ℕ} {c l : List ℕ} (done : Runs s room cuts rows (Open e b) c l) where
   pub open-estimate : estimate (taskOn s) (cut.made s room cuts rows done (open-kept e b)) (start (taskOn s)) ≡ some e
   open-estimate = said.open-estimate s room cuts rows (cut.ran s room cuts rows done (open-kept e b)) e b refl
 
   pub open-below : (ss : List Step) → IsPlan (taskOn s) ss → e ≤ costs (taskOn s) ss
   open-below = said.open-below s room cuts rows (cut.ran s room cuts rows done (open-kept e b)) e b refl
 
-module _ (s : List ℕ) (room : ℕ) (cuts rows : List ℕ) {r : ℕ} {c l : List ℕ} (done : runOutcome r c l ≡ runEntry s room cuts rows) (opened : kind r ≡ 3) where
+module _ (s : List ℕ) (room : ℕ) (cuts rows : List ℕ) {r : ℕ} {c l : List ℕ} (done : EntryRuns s room cuts rows r c l) (opened : kind r ≡ 3) where
   pub entry-open-kept : kind r ≡ 0 → ⊥
   entry-open-kept z = omega arith
 
@@ -79,7 +79,7 @@ module _ (s : List ℕ) (room : ℕ) (cuts rows : List ℕ) {r : ℕ} {c l : Lis
       said.none-below (taskOn s) (m .model) (m .made) (m .ok) (value r) entry-open-estimate
 
 -- ---- "For any accepted cut list, a state's estimate is the abstract distance as 01 defines it, and no plan from that state costs less"
-module _ (model s states est : List ℕ) {n : ℕ} {next : List ℕ} (done : question.outcome (Estimates n) next ≡ asking model s states est) where
+module _ (model s states est : List ℕ) {n : ℕ} {next : List ℕ} (done : Asks model s states est (Estimates n) next) where
   abbrev t : Task
   t = taskOn model
 
@@ -109,7 +109,7 @@ module _ (model s states est : List ℕ) {n : ℕ} {next : List ℕ} (done : que
     estimate-consistent = right .consistent
 
 -- the same of the historian's question: 0 is returned, and the values stand in the bytes
-module _ (model s states est : List ℕ) {r : ℕ} {l : List ℕ} (done : askOutcome r l ≡ askEntry model s states est) (answered : r ≡ 0) where
+module _ (model s states est : List ℕ) {r : ℕ} {l : List ℕ} (done : EntryAsks model s states est r l) (answered : r ≡ 0) where
   abbrev u : Task
   u = taskOn model
 

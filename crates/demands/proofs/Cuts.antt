@@ -19,10 +19,10 @@ use Rattle.sheets.specs.Holding.{taskOn}
 use Rattle.refining.specs.Listing.{listed, cutPlace}
 use Rattle.running.specs.declared.Answer.{Answer}
 use Rattle.running.specs.declared.Answer.the-variants.{Plan, NoPlan, Open, Refused}
-use Rattle.running.specs.Running.{number, outcome, running}
+use Rattle.running.specs.Running.{number, Runs}
 use Rattle.run_laws.proofs.Flaws.{FlawMet}
 use Rattle.run_laws.proofs.Answers as said
-use Rattle.historian.specs.Entries.{bytesOf, runOutcome, runEntry}
+use Rattle.historian.specs.Entries.{bytesOf, EntryRuns}
 use Rattle.demands.proofs.Numbers.{kind, blocks}
 use Rattle.demands.proofs.Entry as entry
 
@@ -41,7 +41,7 @@ blocks-said t room cs l₀ l (Open e b) h = h .0
 blocks-said t room cs l₀ l (Refused n) h = absurd h
 
 -- ---- run
-module _ (s : List ℕ) (room : ℕ) (cuts rows : List ℕ) {a : Answer} {c l : List ℕ} (done : outcome a c l ≡ running s room cuts rows) (kept : number a ≡ 0) where
+module _ (s : List ℕ) (room : ℕ) (cuts rows : List ℕ) {a : Answer} {c l : List ℕ} (done : Runs s room cuts rows a c l) (kept : number a ≡ 0) where
   abbrev t : Task
   t = taskOn s
 
@@ -94,7 +94,7 @@ module _ (s : List ℕ) (room : ℕ) (cuts rows : List ℕ) {a : Answer} {c l : 
   estimates-never-fall = said.never-falls s room cuts rows ran
 
 -- ---- elhavir_run: the cuts as bytes, and the answer of kind 1, 2 or 3
-module _ (s : List ℕ) (room : ℕ) (cuts rows : List ℕ) {r : ℕ} {c l : List ℕ} (done : runOutcome r c l ≡ runEntry s room cuts rows) (kept : kind r ≡ 0 → ⊥) where
+module _ (s : List ℕ) (room : ℕ) (cuts rows : List ℕ) {r : ℕ} {c l : List ℕ} (done : EntryRuns s room cuts rows r c l) (kept : kind r ≡ 0 → ⊥) where
   abbrev u : Task
   u = taskOn s
 

@@ -27,7 +27,7 @@ use Rattle.run.proofs.RunLaws.{Cheapest, NoPlan, Right, run-right}
 use Rattle.run.proofs.LengthLaws.{plan-short}
 use Rattle.refining.specs.Listing.{listed, cutPlace, rowPlace}
 use Rattle.running.specs.Running.{told}
-use Rattle.historian.specs.Entries.{bytesOf, answerNumber, entryChecks, RunOutcome, runOutcome, madeBytes, runEntry}
+use Rattle.historian.specs.Entries.{bytesOf, answerNumber, entryChecks, RunOutcome, madeBytes, EntryRuns}
 use Rattle.demands.proofs.Numbers.{kind, blocks, steps, value, Parts, takes-apart}
 use Rattle.demands.proofs.RefusalNumbers.{entry-low}
 use Rattle.demands.proofs.Refusals.{entry-made, entry-refused}
@@ -114,7 +114,7 @@ module _ (t : Task) (v : Accepted t) (room : ℕ) (few : room ≤ 256) (cs : Lis
         };
       }
 
-module _ (s : List ℕ) (room : ℕ) (cuts rows₀ : List ℕ) {r : ℕ} {cuts′ rows′ : List ℕ} (done : runOutcome r cuts′ rows′ ≡ runEntry s room cuts rows₀) where
+module _ (s : List ℕ) (room : ℕ) (cuts rows₀ : List ℕ) {r : ℕ} {cuts′ rows′ : List ℕ} (done : EntryRuns s room cuts rows₀ r cuts′ rows′) where
   abbrev t : Task
   t = taskOn s
 

@@ -4,7 +4,6 @@ use Prim.Native.Nat.{ℕ, _*_}
 use mathlib.Core.Path.{_≡_, sym, ap, _∙_}
 use mathlib.Core.List.{List}
 use lib.ListN.{take}
-use Rattle.sheets.specs.LentTables.{ofTables}
 use Rattle.reading.specs.declared.ModelRead.{ModelRead}
 use Rattle.reading.specs.Reading as reading
 use Rattle.writing.specs.declared.write.SheetWritten.{SheetWritten}
@@ -25,8 +24,8 @@ use Rattle.historian.specs.Entries as entries
 
 -- read_model
 pub read-model-one : (sheet frame costs marks : List ℕ) {r r′ : ModelRead} {f f′ c c′ m m′ : List ℕ}
-    → reading.outcome r f c m ≡ reading.reading sheet frame costs marks
-    → reading.outcome r′ f′ c′ m′ ≡ reading.reading sheet frame costs marks
+    → reading.ReadsModel sheet frame costs marks r f c m
+    → reading.ReadsModel sheet frame costs marks r′ f′ c′ m′
     → (r ≡ r′) × (f ≡ f′) × (c ≡ c′) × (m ≡ m′)
 read-model-one sheet frame costs marks p q =
     let e = p ∙ sym q in (
@@ -38,8 +37,8 @@ read-model-one sheet frame costs marks p q =
 
 -- write_model
 pub write-model-one : (columns steps : ℕ) (frame costs marks sheet : List ℕ) {r r′ : SheetWritten} {s s′ : List ℕ}
-    → writing.outcome r s ≡ writing.writing (ofTables columns steps frame costs marks) sheet
-    → writing.outcome r′ s′ ≡ writing.writing (ofTables columns steps frame costs marks) sheet
+    → writing.WritesModel columns steps frame costs marks sheet r s
+    → writing.WritesModel columns steps frame costs marks sheet r′ s′
     → (r ≡ r′) × (s ≡ s′)
 write-model-one columns steps frame costs marks sheet p q =
     let e = p ∙ sym q in
@@ -47,8 +46,8 @@ write-model-one columns steps frame costs marks sheet p q =
 
 -- rebuild
 pub rebuild-one : (model sheet cuts : List ℕ) {r r′ : CutsRebuilt} {c c′ : List ℕ}
-    → rebuilding.outcome r c ≡ rebuilding.rebuilding model sheet cuts
-    → rebuilding.outcome r′ c′ ≡ rebuilding.rebuilding model sheet cuts
+    → rebuilding.Rebuilds model sheet cuts r c
+    → rebuilding.Rebuilds model sheet cuts r′ c′
     → (r ≡ r′) × (c ≡ c′)
 rebuild-one model sheet cuts p q =
     let e = p ∙ sym q in
@@ -56,8 +55,8 @@ rebuild-one model sheet cuts p q =
 
 -- write_cuts
 pub write-cuts-one : (model : List ℕ) (count : ℕ) (cuts sheet : List ℕ) {r r′ : CutsWritten} {s s′ : List ℕ}
-    → cutWriting.outcome r s ≡ cutWriting.writingCuts model count cuts sheet
-    → cutWriting.outcome r′ s′ ≡ cutWriting.writingCuts model count cuts sheet
+    → cutWriting.WritesCuts model count cuts sheet r s
+    → cutWriting.WritesCuts model count cuts sheet r′ s′
     → (r ≡ r′) × (s ≡ s′)
 write-cuts-one model count cuts sheet p q =
     let e = p ∙ sym q in
@@ -65,8 +64,8 @@ write-cuts-one model count cuts sheet p q =
 
 -- question
 pub question-one : (model sheet states estimates : List ℕ) {r r′ : Asked} {l l′ : List ℕ}
-    → question.outcome r l ≡ question.asking model sheet states estimates
-    → question.outcome r′ l′ ≡ question.asking model sheet states estimates
+    → question.Asks model sheet states estimates r l
+    → question.Asks model sheet states estimates r′ l′
     → (r ≡ r′) × (l ≡ l′)
 question-one model sheet states estimates p q =
     let e = p ∙ sym q in
@@ -74,8 +73,8 @@ question-one model sheet states estimates p q =
 
 -- run
 pub run-one : (sheet : List ℕ) (room : ℕ) (cuts rows : List ℕ) {r r′ : Answer} {c c′ l l′ : List ℕ}
-    → running.outcome r c l ≡ running.running sheet room cuts rows
-    → running.outcome r′ c′ l′ ≡ running.running sheet room cuts rows
+    → running.Runs sheet room cuts rows r c l
+    → running.Runs sheet room cuts rows r′ c′ l′
     → (r ≡ r′) × (c ≡ c′) × (l ≡ l′)
 run-one sheet room cuts rows p q =
     let e = p ∙ sym q in
@@ -85,8 +84,8 @@ run-one sheet room cuts rows p q =
 
 -- elhavir_run
 pub elhavir-run-one : (sheet : List ℕ) (room : ℕ) (cuts rows : List ℕ) {r r′ : ℕ} {c c′ l l′ : List ℕ}
-    → entries.runOutcome r c l ≡ entries.runEntry sheet room cuts rows
-    → entries.runOutcome r′ c′ l′ ≡ entries.runEntry sheet room cuts rows
+    → entries.EntryRuns sheet room cuts rows r c l
+    → entries.EntryRuns sheet room cuts rows r′ c′ l′
     → (r ≡ r′) × (c ≡ c′) × (l ≡ l′)
 elhavir-run-one sheet room cuts rows p q =
     let e = p ∙ sym q in
@@ -94,8 +93,8 @@ elhavir-run-one sheet room cuts rows p q =
 
 -- elhavir_question
 pub elhavir-question-one : (model sheet states estimates : List ℕ) {r r′ : ℕ} {l l′ : List ℕ}
-    → entries.askOutcome r l ≡ entries.askEntry model sheet states estimates
-    → entries.askOutcome r′ l′ ≡ entries.askEntry model sheet states estimates
+    → entries.EntryAsks model sheet states estimates r l
+    → entries.EntryAsks model sheet states estimates r′ l′
     → (r ≡ r′) × (l ≡ l′)
 elhavir-question-one model sheet states estimates p q =
     let e = p ∙ sym q in
@@ -109,8 +108,8 @@ pub write-model-reads : (columns steps : ℕ) (frame frame′ costs costs′ mar
     → take (columns * 3) frame ≡ take (columns * 3) frame′
     → take steps costs ≡ take steps costs′
     → take (steps * (columns * 2)) marks ≡ take (steps * (columns * 2)) marks′
-    → writing.outcome r s ≡ writing.writing (ofTables columns steps frame costs marks) sheet
-    → writing.outcome r′ s′ ≡ writing.writing (ofTables columns steps frame′ costs′ marks′) sheet
+    → writing.WritesModel columns steps frame costs marks sheet r s
+    → writing.WritesModel columns steps frame′ costs′ marks′ sheet r′ s′
     → (r ≡ r′) × (s ≡ s′)
 write-model-reads columns steps frame frame′ costs costs′ marks marks′ sheet f c k p q =
     write-model-one columns steps frame′ costs′ marks′ sheet (p ∙ tables.first-places columns steps frame frame′ costs costs′ marks marks′ f c k sheet) q
@@ -118,7 +117,7 @@ write-model-reads columns steps frame frame′ costs costs′ marks marks′ she
 -- write_cuts
 pub write-cuts-reads : (model : List ℕ) (count : ℕ) (cuts cuts′ sheet : List ℕ) {r r′ : CutsWritten} {s s′ : List ℕ}
     → take (count * 3) cuts ≡ take (count * 3) cuts′
-    → cutWriting.outcome r s ≡ cutWriting.writingCuts model count cuts sheet
-    → cutWriting.outcome r′ s′ ≡ cutWriting.writingCuts model count cuts′ sheet
+    → cutWriting.WritesCuts model count cuts sheet r s
+    → cutWriting.WritesCuts model count cuts′ sheet r′ s′
     → (r ≡ r′) × (s ≡ s′)
 write-cuts-reads model count cuts cuts′ sheet e p q = write-cuts-one model count cuts′ sheet (p ∙ cutTables.first-places model count cuts cuts′ e sheet) q

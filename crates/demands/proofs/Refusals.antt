@@ -53,12 +53,12 @@ use Rattle.running.specs.declared.Answer.the-variants as answer
 use Rattle.running.specs.Running as running
 use Rattle.running.specs.Running.{told}
 use Rattle.rows.specs.Rows as rows
-use Rattle.rows.specs.Rows.{rowChecks, rowRun}
-use Rattle.historian.specs.Entries.{answerNumber, entryChecks, RunOutcome, runOutcome, madeBytes, runEntry, bytesOf, askChecks, AskOutcome, askOutcome, askEntry}
+use Rattle.rows.specs.Rows.{rowChecks, rowRun, RowRuns}
+use Rattle.historian.specs.Entries.{answerNumber, entryChecks, RunOutcome, runOutcome, madeBytes, runEntry, bytesOf, askChecks, AskOutcome, askOutcome, askEntry, EntryRuns, EntryAsks}
 use Rattle.demands.proofs.RefusalNumbers.{sheetNumbers, cutNumbers, rebuildNumbers, questionNumbers, read-gives, write-gives, rebuild-gives, write-cuts-gives, question-gives, ask-numbers, ask-gives, runNumbers, run-gives, row-numbers, row-run-gives, entry-numbers, entry-gives, entry-low}
 
 -- ---- read_model
-module _ (s frame costs marks : List ℕ) {r : ModelRead} {f c m : List ℕ} (done : reading.outcome r f c m ≡ reading.reading s frame costs marks) where
+module _ (s frame costs marks : List ℕ) {r : ModelRead} {f c m : List ℕ} (done : reading.ReadsModel s frame costs marks r f c m) where
   pub read-model-judged : Judged (λ (o : reading.Outcome). reading.number (o .answer)) (λ n. reading.outcome (read.Refused n) frame costs marks) (readChecks s frame costs marks)
       (reading.outcome (read.Held (columnsOf s) (stepsOf s)) (over (frameOf (ofSheet s)) frame) (over (costsOf (ofSheet s)) costs) (over (marksOf (ofSheet s)) marks)) (reading.outcome r f c m)
   read-model-judged = subst (Judged _ _ _ _) (sym done) (sheet.reader s frame costs marks)
@@ -67,7 +67,7 @@ module _ (s frame costs marks : List ℕ) {r : ModelRead} {f c m : List ℕ} (do
   read-model-numbers = ap (has sheetNumbers) (read-model-judged .told) ∙ read-gives s frame costs marks
 
 -- ---- write_model
-module _ (columns steps : ℕ) (frame costs marks sheet₀ : List ℕ) {r : SheetWritten} {s : List ℕ} (done : writing.outcome r s ≡ writing.writing (ofTables columns steps frame costs marks) sheet₀) where
+module _ (columns steps : ℕ) (frame costs marks sheet₀ : List ℕ) {r : SheetWritten} {s : List ℕ} (done : writing.WritesModel columns steps frame costs marks sheet₀ r s) where
   abbrev P : Source
   P = ofTables columns steps frame costs marks
 
@@ -79,7 +79,7 @@ module _ (columns steps : ℕ) (frame costs marks sheet₀ : List ℕ) {r : Shee
   write-model-numbers = ap (has sheetNumbers) (write-model-judged .told) ∙ write-gives P sheet₀
 
 -- ---- rebuild
-module _ (model s cuts : List ℕ) {r : CutsRebuilt} {c : List ℕ} (done : rebuilding.outcome r c ≡ rebuilding.rebuilding model s cuts) where
+module _ (model s cuts : List ℕ) {r : CutsRebuilt} {c : List ℕ} (done : rebuilding.Rebuilds model s cuts r c) where
   pub rebuild-judged : Judged (λ (o : rebuilding.Outcome). rebuilding.number (o .answer)) (λ n. rebuilding.outcome (rebuilt.Refused n) cuts) (rebuildChecks model s cuts)
       (rebuilding.outcome (rebuilt.Cuts (countOf (tailOf s))) (over (cutList s) cuts)) (rebuilding.outcome r c)
   rebuild-judged = subst (Judged _ _ _ _) (sym done) (cut.rebuilder model s cuts)
@@ -88,7 +88,7 @@ module _ (model s cuts : List ℕ) {r : CutsRebuilt} {c : List ℕ} (done : rebu
   rebuild-numbers = ap (has rebuildNumbers) (rebuild-judged .told) ∙ rebuild-gives model s cuts
 
 -- ---- write_cuts
-module _ (model : List ℕ) (count : ℕ) (cuts sheet₀ : List ℕ) {r : CutsWritten} {s : List ℕ} (done : cutWriting.outcome r s ≡ cutWriting.writingCuts model count cuts sheet₀) where
+module _ (model : List ℕ) (count : ℕ) (cuts sheet₀ : List ℕ) {r : CutsWritten} {s : List ℕ} (done : cutWriting.WritesCuts model count cuts sheet₀ r s) where
   pub write-cuts-judged : Judged (λ (o : cutWriting.Outcome). cutWriting.number (o .answer)) (λ n. cutWriting.outcome (cutsWritten.Refused n) sheet₀) (writeCutsChecks model count cuts sheet₀)
       (cutWriting.outcome (cutsWritten.Sheet (length model + cutBytes count)) (over (cutSheetOf model count cuts) sheet₀)) (cutWriting.outcome r s)
   write-cuts-judged = subst (Judged _ _ _ _) (sym done) (cut.writer model count cuts sheet₀)
@@ -97,7 +97,7 @@ module _ (model : List ℕ) (count : ℕ) (cuts sheet₀ : List ℕ) {r : CutsWr
   write-cuts-numbers = ap (has cutNumbers) (write-cuts-judged .told) ∙ write-cuts-gives model count cuts sheet₀
 
 -- ---- question
-module _ (model s states est : List ℕ) {r : Asked} {l : List ℕ} (done : question.outcome r l ≡ question.asking model s states est) where
+module _ (model s states est : List ℕ) {r : Asked} {l : List ℕ} (done : question.Asks model s states est r l) where
   pub question-judged : Judged (λ (o : question.Outcome). question.number (o .answer)) (λ n. question.outcome (answered.Refused n) est) (question.questionChecks model s states est)
       (question.outcome (answered.Estimates (statesIn (taskOn model) states)) (over (estimatesOf (taskOn model) (cutsOf s) states) est)) (question.outcome r l)
   question-judged = subst (Judged _ _ _ _) (sym done) (asked.asker model s states est)
@@ -106,7 +106,7 @@ module _ (model s states est : List ℕ) {r : Asked} {l : List ℕ} (done : ques
   question-numbers = ap (has questionNumbers) (question-judged .told) ∙ question-gives model s states est
 
 -- ---- run
-module _ (s : List ℕ) (room : ℕ) (cuts rs : List ℕ) {r : Answer} {c l : List ℕ} (done : running.outcome r c l ≡ running.running s room cuts rs) where
+module _ (s : List ℕ) (room : ℕ) (cuts rs : List ℕ) {r : Answer} {c l : List ℕ} (done : running.Runs s room cuts rs r c l) where
   pub run-judged : Judged (λ (o : running.Outcome). running.number (o .answer)) (λ n. running.outcome (answer.Refused n) cuts rs) (running.runChecks s room cuts rs)
       (running.made (taskOn s) (run.run (taskOn s) room) cuts rs) (running.outcome r c l)
   run-judged = subst (Judged _ _ _ _) (sym done) (ran.runner s room cuts rs)
@@ -126,7 +126,7 @@ module _ (s : List ℕ) (room : ℕ) (cuts : List ℕ) (rs : List Row) where
       judges _ _ ran.numbers refl (rowChecks s room cuts rs) (row-numbers s room cuts rs) _
       (ran.told-number t (run.blockCount (run.run t room)) (run.run t room .answer)) refl
 
-  module _ {a : Answer} {c : List ℕ} {l : List Row} (done : rows.outcome a c l ≡ rowRun s room cuts rs) where
+  module _ {a : Answer} {c : List ℕ} {l : List Row} (done : RowRuns s room cuts rs a c l) where
     pub row-run-judged : Judged (λ (o : rows.Outcome). running.number (o .answer)) (λ n. rows.outcome (answer.Refused n) cuts rs) (rowChecks s room cuts rs) rowsMade (rows.outcome a c l)
     row-run-judged = subst (Judged _ _ _ _) (sym done) row-runner
 
@@ -163,7 +163,7 @@ module _ (s : List ℕ) (room : ℕ) (cuts rs : List ℕ) where
       judges _ _ ran.numbers refl (entryChecks s room cuts rs) (entry-numbers s room cuts rs) _ (ap (λ (b : Bool). pick b v 0) (le-ltb v (2 ^ 56) (large (taskOn s) (run.blockCount o) (o .answer))))
       (ap (λ (b : Bool). pick b R 0) (lt-ltb R (2 ^ 56) (omega (arith, entry-low s room cuts rs))))
 
-  module _ {r : ℕ} {c l : List ℕ} (done : runOutcome r c l ≡ runEntry s room cuts rs) where
+  module _ {r : ℕ} {c l : List ℕ} (done : EntryRuns s room cuts rs r c l) where
     pub elhavir-run-judged : Judged (λ (o : RunOutcome). refusalIn (o .answer)) (λ n. runOutcome n cuts rs) (entryChecks s room cuts rs) (madeBytes (taskOn s) (run.run (taskOn s) room) cuts rs) (runOutcome r c l)
     elhavir-run-judged = subst (Judged _ _ _ _) (sym done) entry-runner
 
@@ -179,7 +179,7 @@ module _ (model s states est : List ℕ) where
   unfolding askEntry
   entry-asker = judges _ _ asked.numbers refl (askChecks model s states est) (ask-numbers model s states est) _ refl refl
 
-  module _ {r : ℕ} {l : List ℕ} (done : askOutcome r l ≡ askEntry model s states est) where
+  module _ {r : ℕ} {l : List ℕ} (done : EntryAsks model s states est r l) where
     pub elhavir-question-judged : Judged (λ (o : AskOutcome). o .answer) (λ n. askOutcome n est) (askChecks model s states est) asked-made (askOutcome r l)
     elhavir-question-judged = subst (Judged _ _ _ _) (sym done) entry-asker
 

@@ -67,7 +67,7 @@ front-of new old = take-append-seam new (drop (length new) old)
 -- ---- the model sheet
 
 -- written and read back: the reader holds the writer's columns, steps and tables
-module _ (n m : ℕ) (frame costs marks sheet₀ : List ℕ) (bound : (j : ℕ) → j < m → getD costs j 0 < 65536) {b : ℕ} {s : List ℕ} (wrote : writing.outcome (Sheet b) s ≡ writing.writing (ofTables n m frame costs marks) sheet₀) where
+module _ (n m : ℕ) (frame costs marks sheet₀ : List ℕ) (bound : (j : ℕ) → j < m → getD costs j 0 < 65536) {b : ℕ} {s : List ℕ} (wrote : writing.WritesModel n m frame costs marks sheet₀ (Sheet b) s) where
   abbrev P : Source
   P = ofTables n m frame costs marks
 
@@ -97,12 +97,12 @@ module _ (n m : ℕ) (frame costs marks sheet₀ : List ℕ) (bound : (j : ℕ) 
       let l : b ≡ length (sheetOf (entries P)) = ap (λ (o : writing.Outcome). bytesTold (o .answer)) whole-write ∙ sym (written-length P fields-good bound-in) in
       ap (λ (k : ℕ). take k s) l ∙ ap (λ (o : writing.Outcome). take (length (sheetOf (entries P))) (o .sheet)) whole-write ∙ front-of (sheetOf (entries P)) sheet₀
 
-  pub model-back : (f c k : List ℕ) → n * 3 ≤ length f → m ≤ length c → m * (n * 2) ≤ length k → {r : ModelRead} {f′ c′ k′ : List ℕ} → reading.outcome r f′ c′ k′ ≡ reading.reading (take b s) f c k
+  pub model-back : (f c k : List ℕ) → n * 3 ≤ length f → m ≤ length c → m * (n * 2) ≤ length k → {r : ModelRead} {f′ c′ k′ : List ℕ} → reading.ReadsModel (take b s) f c k r f′ c′ k′
       → reading.outcome r f′ c′ k′ ≡ reading.outcome (Held n m) (over (take (n * 3) frame) f) (over (take m costs) c) (over (take (m * (n * 2)) marks) k)
   model-back f c k hf hc hk read = read ∙ ap (λ (x : List ℕ). reading.reading x f c k) sheet-is ∙ tables.tables-back n m frame costs marks fields-good bound f c k hf hc hk
 
 -- accepted bytes, read and written again, come back the same
-module _ (s f c k : List ℕ) (bs : Bytes s) {n m : ℕ} {f′ c′ k′ : List ℕ} (read : reading.outcome (Held n m) f′ c′ k′ ≡ reading.reading s f c k) where
+module _ (s f c k : List ℕ) (bs : Bytes s) {n m : ℕ} {f′ c′ k′ : List ℕ} (read : reading.ReadsModel s f c k (Held n m) f′ c′ k′) where
   abbrev R : ℕ
   R = refusal (readChecks s f c k)
 
@@ -118,7 +118,7 @@ module _ (s f c k : List ℕ) (bs : Bytes s) {n m : ℕ} {f′ c′ k′ : List 
   unfolding reading.reading
   whole-read = read ∙ simp (eq-eqb R 0 read-quiet)
 
-  pub model-bytes-back : (sheet₀ : List ℕ) → length s ≤ length sheet₀ → {r : SheetWritten} {s′ : List ℕ} → writing.outcome r s′ ≡ writing.writing (ofTables n m f′ c′ k′) sheet₀
+  pub model-bytes-back : (sheet₀ : List ℕ) → length s ≤ length sheet₀ → {r : SheetWritten} {s′ : List ℕ} → writing.WritesModel n m f′ c′ k′ sheet₀ r s′
       → writing.outcome r s′ ≡ writing.outcome (Sheet (length s)) (over s sheet₀)
   unfolding tablesTold columnsTold stepsTold
   model-bytes-back sheet₀ h wrote = wrote ∙ ap (λ (o : reading.Outcome). writing.writing (tablesTold o) sheet₀) whole-read ∙ tables.bytes-back s sheet-good bs f c k sheet₀ h
@@ -126,7 +126,7 @@ module _ (s f c k : List ℕ) (bs : Bytes s) {n m : ℕ} {f′ c′ k′ : List 
 -- ---- the cut sheet
 
 -- written and rebuilt: the reader has as many cuts, and the values that the writer was to read
-module _ (model : List ℕ) (count : ℕ) (cuts sheet₀ : List ℕ) (sets : (i : ℕ) → i < count → getD cuts (i * 3 + 2) 0 < 2 ^ 32) {b : ℕ} {s : List ℕ} (wrote : cutWriting.outcome (CutSheet b) s ≡ cutWriting.writingCuts model count cuts sheet₀) where
+module _ (model : List ℕ) (count : ℕ) (cuts sheet₀ : List ℕ) (sets : (i : ℕ) → i < count → getD cuts (i * 3 + 2) 0 < 2 ^ 32) {b : ℕ} {s : List ℕ} (wrote : cutWriting.WritesCuts model count cuts sheet₀ (CutSheet b) s) where
   abbrev K : ℕ
   K = refusal (writeCutsChecks model count cuts sheet₀)
 
@@ -152,12 +152,12 @@ module _ (model : List ℕ) (count : ℕ) (cuts sheet₀ : List ℕ) (sets : (i 
       let l : b ≡ length S = ap (λ (o : cutWriting.Outcome). cutBytesTold (o .answer)) whole-cuts ∙ sym (back.sheet-long model count cuts (given-quiet .0) (given-quiet .1) sets) in
       ap (λ (k : ℕ). take k s) l ∙ ap (λ (o : cutWriting.Outcome). take (length S) (o .sheet)) whole-cuts ∙ front-of S sheet₀
 
-  pub cuts-back : (c₀ : List ℕ) → count * 3 ≤ length c₀ → {r : CutsRebuilt} {c : List ℕ} → rebuilding.outcome r c ≡ rebuilding.rebuilding model (take b s) c₀
+  pub cuts-back : (c₀ : List ℕ) → count * 3 ≤ length c₀ → {r : CutsRebuilt} {c : List ℕ} → rebuilding.Rebuilds model (take b s) c₀ r c
       → rebuilding.outcome r c ≡ rebuilding.outcome (Cuts count) (over (take (count * 3) cuts) c₀)
   cuts-back c₀ h rebuilt = rebuilt ∙ ap (λ (x : List ℕ). rebuilding.rebuilding model x c₀) cut-sheet-is ∙ back.cuts-back model count cuts (given-quiet .0) (given-quiet .1) sets c₀ h
 
 -- accepted bytes: the cuts that were rebuilt, written again with the model from the list that holds them, come back the same
-module _ (model s c₀ : List ℕ) (bs : Bytes s) {n : ℕ} {c : List ℕ} (rebuilt : rebuilding.outcome (Cuts n) c ≡ rebuilding.rebuilding model s c₀) where
+module _ (model s c₀ : List ℕ) (bs : Bytes s) {n : ℕ} {c : List ℕ} (rebuilt : rebuilding.Rebuilds model s c₀ (Cuts n) c) where
   abbrev Q : ℕ
   Q = refusal (rebuildChecks model s c₀)
 
@@ -173,7 +173,7 @@ module _ (model s c₀ : List ℕ) (bs : Bytes s) {n : ℕ} {c : List ℕ} (rebu
   unfolding rebuilding.rebuilding
   whole-rebuild = rebuilt ∙ simp (eq-eqb Q 0 rebuild-quiet)
 
-  pub cut-bytes-back : (sheet₀ : List ℕ) → length s ≤ length sheet₀ → {r : CutsWritten} {s′ : List ℕ} → cutWriting.outcome r s′ ≡ cutWriting.writingCuts model n c sheet₀
+  pub cut-bytes-back : (sheet₀ : List ℕ) → length s ≤ length sheet₀ → {r : CutsWritten} {s′ : List ℕ} → cutWriting.WritesCuts model n c sheet₀ r s′
       → cutWriting.outcome r s′ ≡ cutWriting.outcome (CutSheet (length s)) (over s sheet₀)
   unfolding cutsTold
   cut-bytes-back sheet₀ h wrote = wrote ∙ ap (λ (o : rebuilding.Outcome). cutWriting.writingCuts model (cutsTold (o .answer)) (o .cuts) sheet₀) whole-rebuild ∙ back.bytes-back model s cut-sheet-good bs c₀ sheet₀ h

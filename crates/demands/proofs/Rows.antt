@@ -25,20 +25,20 @@ use Rattle.running.specs.Running.{told, number}
 use Rattle.run_laws.proofs.Answers as said
 use Rattle.counts.specs.Counts.{usable}
 use Rattle.rows.specs.Rows as lent
-use Rattle.rows.specs.Rows.{filled, filling, outcome, rowRun}
+use Rattle.rows.specs.Rows.{outcome, RowRuns, PutsRows}
 use Rattle.rows.proofs.RowRunLaws.{checks-same}
 use Rattle.demands.proofs.Refusals.{row-run-judged}
 
 -- ---- one outcome
 
 -- put_rows
-pub put-rows-one : (rs : List Row) (values : List ℕ) (n : ℕ) {k k′ : ℕ} {l l′ : List Row} → filled k l ≡ filling rs values n → filled k′ l′ ≡ filling rs values n → (k ≡ k′) × (l ≡ l′)
+pub put-rows-one : (rs : List Row) (values : List ℕ) (n : ℕ) {k k′ : ℕ} {l l′ : List Row} → PutsRows rs values n k l → PutsRows rs values n k′ l′ → (k ≡ k′) × (l ≡ l′)
 put-rows-one rs values n p q =
     let e = p ∙ sym q in
     (ap (λ (o : lent.Filled). o .count) e, ap (λ (o : lent.Filled). o .rows) e)
 
 -- run
-pub row-run-one : (s : List ℕ) (room : ℕ) (cuts : List ℕ) (rs : List Row) {a a′ : Answer} {c c′ : List ℕ} {l l′ : List Row} → outcome a c l ≡ rowRun s room cuts rs → outcome a′ c′ l′ ≡ rowRun s room cuts rs
+pub row-run-one : (s : List ℕ) (room : ℕ) (cuts : List ℕ) (rs : List Row) {a a′ : Answer} {c c′ : List ℕ} {l l′ : List Row} → RowRuns s room cuts rs a c l → RowRuns s room cuts rs a′ c′ l′
     → (a ≡ a′) × (c ≡ c′) × (l ≡ l′)
 row-run-one s room cuts rs p q =
     let e = p ∙ sym q in
@@ -75,7 +75,7 @@ module _ (s : List ℕ) (room : ℕ) (cuts : List ℕ) (rs : List Row) where
   abbrev o : run.Outcome
   o = run.run t room
 
-  module _ {a : Answer} {c : List ℕ} {l : List Row} (done : outcome a c l ≡ rowRun s room cuts rs) where
+  module _ {a : Answer} {c : List ℕ} {l : List Row} (done : RowRuns s room cuts rs a c l) where
     -- demands 2 and 3 of the answer and the cuts: it is `run`, with a list of values for as many places
     module _ (kept : number a ≡ 0) where
       abbrev values : List ℕ

@@ -15,10 +15,10 @@ use Rattle.refining.specs.Listing.{listed, cutPlace, rowPlace}
 use Rattle.refining.proofs.CutListLaws.{listed-length}
 use Rattle.running.specs.declared.Answer.{Answer}
 use Rattle.running.specs.declared.Answer.the-variants.{Plan, NoPlan, Open, Refused}
-use Rattle.running.specs.Running.{number, Outcome, outcome, running}
+use Rattle.running.specs.Running.{number, Outcome, Runs}
 use Rattle.running.proofs.RowLaws.{three}
 use Rattle.run_laws.proofs.Answers as said
-use Rattle.historian.specs.Entries.{valueBytes, bytesAt, bytesOf, entryChecks, RunOutcome, runOutcome, runEntry}
+use Rattle.historian.specs.Entries.{valueBytes, bytesAt, bytesOf, entryChecks, RunOutcome, EntryRuns}
 use Rattle.demands.proofs.Numbers.{kind, steps}
 use Rattle.demands.proofs.Refusals.{run-judged, entry-refused}
 use Rattle.demands.proofs.Entry as entry
@@ -43,31 +43,31 @@ bytes-length vs = each-length (bytesAt vs) 4 (λ i. refl) (length vs)
 -- ---- run
 module _ (s : List ℕ) (room : ℕ) (cuts rs : List ℕ) {c l : List ℕ} where
   -- a refusal's number is not 0, and it leaves everything lent as found
-  refused-untouched : (n : ℕ) → outcome (Refused n) c l ≡ running s room cuts rs → Dec (n ≡ 0) → l ≡ rs
+  refused-untouched : (n : ℕ) → Runs s room cuts rs (Refused n) c l → Dec (n ≡ 0) → l ≡ rs
   unfolding number
   refused-untouched n done (yes z) = absurd (said.run-says s room cuts rs done z .says)
   refused-untouched n done (no z) = ap (λ (o : Outcome). o .rows) (run-judged s room cuts rs done .leaves n z refl)
 
   -- only a plan writes rows: for "no plan" and "open" they stay untouched, and after a refusal
-  pub rows-untouched : (a : Answer) → outcome a c l ≡ running s room cuts rs → ((cost n b : ℕ) → a ≡ Plan cost n b → ⊥) → l ≡ rs
+  pub rows-untouched : (a : Answer) → Runs s room cuts rs a c l → ((cost n b : ℕ) → a ≡ Plan cost n b → ⊥) → l ≡ rs
   unfolding number
   rows-untouched (Plan cost n b) done h = absurd (h cost n b refl)
   rows-untouched (NoPlan b) done h = said.run-says s room cuts rs done refl .says .1
   rows-untouched (Open e b) done h = said.run-says s room cuts rs done refl .says .1
   rows-untouched (Refused n) done h = refused-untouched n done (ℕ-discrete n 0)
 
-module _ (s : List ℕ) (room : ℕ) (cuts rs : List ℕ) {a : Answer} {c l : List ℕ} (done : outcome a c l ≡ running s room cuts rs) where
+module _ (s : List ℕ) (room : ℕ) (cuts rs : List ℕ) {a : Answer} {c l : List ℕ} (done : Runs s room cuts rs a c l) where
   pub cuts-past-untouched : (kept : number a ≡ 0) → drop (length (cut.made s room cuts rs done kept) * 3) c ≡ drop (length (cut.made s room cuts rs done kept) * 3) cuts
   cuts-past-untouched kept = past _ (listed cutPlace (cut.made s room cuts rs done kept)) cuts (cut.cuts-listed s room cuts rs done kept) (listed-length _)
 
 -- after a plan of n steps
-pub rows-past-untouched : (s : List ℕ) (room : ℕ) (cuts rs : List ℕ) {cost n b : ℕ} {c l : List ℕ} → outcome (Plan cost n b) c l ≡ running s room cuts rs → drop (n * 3) l ≡ drop (n * 3) rs
+pub rows-past-untouched : (s : List ℕ) (room : ℕ) (cuts rs : List ℕ) {cost n b : ℕ} {c l : List ℕ} → Runs s room cuts rs (Plan cost n b) c l → drop (n * 3) l ≡ drop (n * 3) rs
 rows-past-untouched s room cuts rs {n = n} done =
     let p = plan-right s room cuts rs done in
     past (n * 3) (listed rowPlace (rows (taskOn s) (p .steps))) rs (p .listed-rows) (three (taskOn s) (p .steps) ∙ ap (λ (k : ℕ). k * 3) (sym (p .count-is)))
 
 -- ---- elhavir_run
-module _ (s : List ℕ) (room : ℕ) (cuts rs : List ℕ) {r : ℕ} {c l : List ℕ} (done : runOutcome r c l ≡ runEntry s room cuts rs) where
+module _ (s : List ℕ) (room : ℕ) (cuts rs : List ℕ) {r : ℕ} {c l : List ℕ} (done : EntryRuns s room cuts rs r c l) where
   pub entry-rows-untouched : (kind r ≡ 1 → ⊥) → l ≡ rs
   entry-rows-untouched h = split (ℕ-discrete (refusal (entryChecks s room cuts rs)) 0)
     where

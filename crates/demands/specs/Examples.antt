@@ -251,3 +251,8 @@ unfolding answered list refusedOf taskOf told
     run.keeps run.nextHop run.trace run.wantedAt run.allowed run.backAt run.goalWanted run.needWanted run.backWanted run.walk run.cutColumn run.cutFor
     run.lookWalk run.lookFrom run.look run.cutOf run.endOf run.refine run.run run.rows run.rowsOf run.blockCount
 examples = refl
+
+-- ---- N, the number of states that the columns allow: 6 for the small re-thread
+pub state-counts : map task.stateCount (rethread ∷ withoutTape ∷ free ∷ one none ∷ chain ∷ stepFirst ∷ blockNext ∷ within ∷ fewerSteps ∷ []) ≡ 6 ∷ 6 ∷ 2 ∷ 1 ∷ 8 ∷ 8 ∷ 6 ∷ 9 ∷ 3 ∷ []
+unfolding task.stateCount task.columnCount task.sizeOf loops.prod
+state-counts = refl

@@ -20,12 +20,12 @@ use Rattle.sheets.specs.LentTables.{tooFew}
 use Rattle.cut_sheets.specs.CutSheet.{cutSheetChecks, cutsOf}
 use Rattle.asking.specs.declared.Asked.{Asked}
 use Rattle.asking.specs.declared.Asked.the-variants.{Estimates, Refused}
-use Rattle.asking.specs.Question.{statesIn, badStates, estimateAt, estimatesOf, questionChecks, outcome, asking}
+use Rattle.asking.specs.Question.{statesIn, badStates, estimateAt, estimatesOf, questionChecks, outcome, asking, Asks}
 use Rattle.asking.specs.Question as question
 use Rattle.asking.proofs.AnswerLaws.{few-states}
 use Rattle.counts.specs.Counts.{usable}
 use Rattle.counts.proofs.UsableLaws.{usable-is, same-test}
-use Rattle.historian.specs.Entries.{bytesAt, fewPlaces, askChecks, askOutcome, askEntry}
+use Rattle.historian.specs.Entries.{bytesAt, fewPlaces, askChecks, askOutcome, askEntry, EntryAsks}
 use Rattle.historian.proofs.ValueLaws.{list-over}
 use Rattle.sheets.specs.Holding.{taskOn}
 
@@ -42,7 +42,7 @@ module _ (model s states l : List ℕ) where
   abbrev estimates : List ℕ
   estimates = estimatesOf t (cutsOf s) states
 
-  module _ {a : Asked} {l′ : List ℕ} (e : outcome a l′ ≡ asking model s states l) where
+  module _ {a : Asked} {l′ : List ℕ} (e : Asks model s states l a l′) where
     made : N ≡ 0 → outcome a l′ ≡ outcome (Estimates n) (over estimates l)
     unfolding asking
     made z = e ∙ simp (eq-eqb N 0 z)
@@ -124,8 +124,8 @@ module _ (model s states l : List ℕ) where
     unfolding askChecks questionChecks
     checks-same = refusal-append (cutSheetChecks model s) _ ∙ ap (λ (x : ℕ). refusal (cutSheetChecks model s) then x) tail-same ∙ sym (refusal-append (cutSheetChecks model s) _)
 
-    told : {a : Asked} {l′ : List ℕ} (e : outcome a l′ ≡ asking model s states l) (k : ℕ) → a ≡ Estimates k → (ys : List ℕ) {bytes′ : List ℕ} → bytes′ ≡ puts 0 (each k (bytesAt (l′ ++ ys))) bytes
-        → askOutcome 0 bytes′ ≡ askEntry model s states bytes
+    told : {a : Asked} {l′ : List ℕ} (e : Asks model s states l a l′) (k : ℕ) → a ≡ Estimates k → (ys : List ℕ) {bytes′ : List ℕ} → bytes′ ≡ puts 0 (each k (bytesAt (l′ ++ ys))) bytes
+        → EntryAsks model s states bytes 0 bytes′
     unfolding askEntry
     told e k q ys w =
         let r = answered e k q in
@@ -133,14 +133,14 @@ module _ (model s states l : List ℕ) where
         let x = w ∙ list-over estimates l ys bytes k (r .list) (r .long) b in
         simp (eq-eqb (refusal (askChecks model s states bytes)) 0 (checks-same ∙ r .ok)) (ap (askOutcome 0) x)
 
-    told-refused : {a : Asked} {l′ : List ℕ} (e : outcome a l′ ≡ asking model s states l) (k : ℕ) → a ≡ Refused k → askOutcome k bytes ≡ askEntry model s states bytes
+    told-refused : {a : Asked} {l′ : List ℕ} (e : Asks model s states l a l′) (k : ℕ) → a ≡ Refused k → EntryAsks model s states bytes k bytes
     unfolding askEntry
     told-refused e k q =
         let r = refused e k q in
         simp (ne-eqb (refusal (askChecks model s states bytes)) 0 (λ v. r .0 (sym checks-same ∙ v))) (ap (λ (x : ℕ). askOutcome x bytes) (r .1 ∙ sym checks-same))
 
 -- ---- the same with the first values of a list to work in
-module _ (model s states bytes list : List ℕ) (n : ℕ) {a : Asked} {l′ : List ℕ} (e : outcome a l′ ≡ asking model s states (take n list)) (h : n ≤ length list) where
+module _ (model s states bytes list : List ℕ) (n : ℕ) {a : Asked} {l′ : List ℕ} (e : Asks model s states (take n list) a l′) (h : n ≤ length list) where
   pub asked-go : (k : ℕ) → a ≡ Estimates k → n * 4 ≤ length bytes → (k < 1024) × (k ≤ length (l′ ++ drop n list)) × (k * 4 ≤ length bytes)
   asked-go k q b =
       let w = answered model s states (take n list) e k q in
@@ -148,8 +148,8 @@ module _ (model s states bytes list : List ℕ) (n : ℕ) {a : Asked} {l′ : Li
 
   -- the places lent are as many as can matter
   module _ (most : ℕ) (p : n ≡ usable most (length bytes / 4)) (all : ltb most 64 ≡ false) where
-    pub asked-in : (k : ℕ) → a ≡ Estimates k → {bytes′ : List ℕ} → bytes′ ≡ puts 0 (each k (bytesAt (l′ ++ drop n list))) bytes → askOutcome 0 bytes′ ≡ askEntry model s states bytes
+    pub asked-in : (k : ℕ) → a ≡ Estimates k → {bytes′ : List ℕ} → bytes′ ≡ puts 0 (each k (bytesAt (l′ ++ drop n list))) bytes → EntryAsks model s states bytes 0 bytes′
     asked-in k q = told model s states (take n list) bytes most all (length-take-le n list h ∙ p) e k q (drop n list)
 
-    pub refused-in : (k : ℕ) → a ≡ Refused k → askOutcome k bytes ≡ askEntry model s states bytes
+    pub refused-in : (k : ℕ) → a ≡ Refused k → EntryAsks model s states bytes k bytes
     refused-in = told-refused model s states (take n list) bytes most all (length-take-le n list h ∙ p) e

@@ -17,11 +17,11 @@ use Rattle.fields.specs.Places.{puts}
 use Rattle.fields.proofs.JudgingLaws.{applies, refusal-append, inside-means}
 use Rattle.sheets.specs.ModelSheet.{sheetChecks}
 use Rattle.running.specs.declared.Answer.{Answer}
-use Rattle.running.specs.Running.{roomChecks, runChecks, outcome, running}
+use Rattle.running.specs.Running.{roomChecks, runChecks, Runs}
 use Rattle.counts.specs.Counts.{cutValueCount, rowCount, rowValueCount, Counted, usable}
 use Rattle.counts.proofs.CountLaws as count
 use Rattle.counts.proofs.UsableLaws.{usable-is, same-test}
-use Rattle.historian.specs.Entries.{bytesAt, bytesOf, fewPlaces, answerNumber, entryChecks, madeBytes, runOutcome, runEntry}
+use Rattle.historian.specs.Entries.{bytesAt, bytesOf, fewPlaces, answerNumber, entryChecks, madeBytes, runOutcome, runEntry, EntryRuns}
 use Rattle.historian.proofs.ValueLaws.{list-over, nothing-put}
 
 -- ---- 8 is judged on the places lent
@@ -50,7 +50,7 @@ module _ (s : List ℕ) (room : ℕ) (cuts rows c r : List ℕ) (lc : length c �
   unfolding entryChecks runChecks
   checks-same = refusal-append (sheetChecks s) _ ∙ ap (λ (x : ℕ). refusal (sheetChecks s) then x) room-same ∙ sym (refusal-append (sheetChecks s) (roomChecks room c r))
 
-  module _ {a : Answer} {c′ r′ : List ℕ} (e : outcome a c′ r′ ≡ running s room c r) where
+  module _ {a : Answer} {c′ r′ : List ℕ} (e : Runs s room c r a c′ r′) where
     abbrev cutList : List ℕ
     cutList = count.cutList s room c r
 
@@ -72,18 +72,18 @@ module _ (s : List ℕ) (room : ℕ) (cuts rows c r : List ℕ) (lc : length c �
 
     -- the entry's outcome
     pub entry-told : (cs rs : List ℕ) {cuts′ rows′ : List ℕ} {n : ℕ} → cuts′ ≡ puts 0 (each (cutValueCount a) (bytesAt (c′ ++ cs))) cuts → rows′ ≡ puts 0 (each (rowValueCount a) (bytesAt (r′ ++ rs))) rows
-        → n ≡ answerNumber a → runOutcome n cuts′ rows′ ≡ runEntry s room cuts rows
+        → n ≡ answerNumber a → EntryRuns s room cuts rows n cuts′ rows′
     unfolding runEntry madeBytes cutValueCount rowCount rowValueCount answerNumber
     entry-told cs rs {cuts′} {rows′} {n} p q k = ⊎-elim yes-ran not-ran (count.ran-or-not s room c r e)
       where
-        yes-ran : count.Ran s room c r a c′ r′ → runOutcome n cuts′ rows′ ≡ runEntry s room cuts rows
+        yes-ran : count.Ran s room c r a c′ r′ → EntryRuns s room cuts rows n cuts′ rows′
         yes-ran w =
             let x : cuts′ ≡ over (bytesOf cutList) cuts = p ∙ list-over cutList c cs cuts (cutValueCount a) (w .cut-list) (count.cuts-long s room c r e w) (room-for .cut-bytes) in
             let y : rows′ ≡ over (bytesOf rowList) rows = q ∙ list-over rowList r rs rows (rowValueCount a) (w .row-list) (count.rows-long s room c r e w) (room-for .row-bytes) in
             let z = k ∙ ap answerNumber (w .answer) in
             simp (eq-eqb (refusal (entryChecks s room cuts rows)) 0 (checks-same ∙ w .ok)) (rw (x, y, z))
 
-        not-ran : count.NotRan s room c r a c′ r′ → runOutcome n cuts′ rows′ ≡ runEntry s room cuts rows
+        not-ran : count.NotRan s room c r a c′ r′ → EntryRuns s room cuts rows n cuts′ rows′
         not-ran b =
             let x : cuts′ ≡ cuts = p ∙ ap (λ (z : Answer). puts 0 (each (cutValueCount z) (bytesAt (c′ ++ cs))) cuts) (b .answer) ∙ nothing-put (c′ ++ cs) cuts in
             let y : rows′ ≡ rows = q ∙ ap (λ (z : Answer). puts 0 (each (rowValueCount z) (bytesAt (r′ ++ rs))) rows) (b .answer) ∙ nothing-put (r′ ++ rs) rows in
@@ -91,7 +91,7 @@ module _ (s : List ℕ) (room : ℕ) (cuts rows c r : List ℕ) (lc : length c �
             simp (ne-eqb (refusal (entryChecks s room cuts rows)) 0 (λ v. b .bad (sym checks-same ∙ v))) (rw (x, y) (ap (λ (m : ℕ). runOutcome m cuts rows) z))
 
 -- ---- the same with the first values of two lists to work in
-module _ (s : List ℕ) (room : ℕ) (cutList rowList : List ℕ) (m n : ℕ) {a : Answer} {c′ r′ : List ℕ} (e : outcome a c′ r′ ≡ running s room (take (m * 3) cutList) (take (n * 3) rowList)) where
+module _ (s : List ℕ) (room : ℕ) (cutList rowList : List ℕ) (m n : ℕ) {a : Answer} {c′ r′ : List ℕ} (e : Runs s room (take (m * 3) cutList) (take (n * 3) rowList) a c′ r′) where
   known : count.Known s room (take (m * 3) cutList) (take (n * 3) rowList) a c′ r′
   known = count.known s room (take (m * 3) cutList) (take (n * 3) rowList) e
 
@@ -115,7 +115,7 @@ module _ (s : List ℕ) (room : ℕ) (cutList rowList : List ℕ) (m n : ℕ) {a
     part list bytes {k} l e = length-take-le (k * 3) list (omega (arith, usable-is 255 (length bytes / 12) .few)) ∙ ap (λ (x : ℕ). x * 3) e
 
     pub told-in : {k l x : ℕ} {cuts′ rows′ : List ℕ} → k ≡ cutValueCount a → l ≡ rowValueCount a → x ≡ answerNumber a
-        → cuts′ ≡ puts 0 (each k (bytesAt (c′ ++ drop (m * 3) cutList))) cuts → rows′ ≡ puts 0 (each l (bytesAt (r′ ++ drop (n * 3) rowList))) rows → runOutcome x cuts′ rows′ ≡ runEntry s room cuts rows
+        → cuts′ ≡ puts 0 (each k (bytesAt (c′ ++ drop (m * 3) cutList))) cuts → rows′ ≡ puts 0 (each l (bytesAt (r′ ++ drop (n * 3) rowList))) rows → EntryRuns s room cuts rows x cuts′ rows′
     told-in k l x y z =
         entry-told s room cuts rows (take (m * 3) cutList) (take (n * 3) rowList) (part cutList cuts (h .0) p) (part rowList rows (h .1) q) e (drop (m * 3) cutList) (drop (n * 3) rowList)
         (y ∙ ap (λ (i : ℕ). puts 0 (each i (bytesAt (c′ ++ drop (m * 3) cutList))) cuts) k) (z ∙ ap (λ (i : ℕ). puts 0 (each i (bytesAt (r′ ++ drop (n * 3) rowList))) rows) l) x

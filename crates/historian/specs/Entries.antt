@@ -1,5 +1,6 @@
 -- 01, "The planner's boundary": the run and the question for the historian, which passes lists of bytes.
 use Prim.Native.Nat.{ℕ, _+_, _-_, _*_, _/_, _%_, _^_}
+use mathlib.Core.Path.{_≡_}
 use mathlib.Core.List.{List, [], _∷_, _++_}
 use lib.Dec.{eqb, ltb}
 use lib.ListN.{length, getD}
@@ -66,6 +67,10 @@ runEntry s room cuts rows =
     let n = refusal (entryChecks s room cuts rows) in
     pick (eqb n 0) (madeBytes (taskOn s) (run.run (taskOn s) room) cuts rows) (runOutcome n cuts rows)
 
+-- what `elhavir_run` promises, whatever is passed: the answer number and the two lists at exit
+abbrev pub EntryRuns : (s : List ℕ) (room : ℕ) (cuts rows : List ℕ) → ℕ → (cuts′ rows′ : List ℕ) → Type 0
+EntryRuns s room cuts rows r cuts′ rows′ = runOutcome r cuts′ rows′ ≡ runEntry s room cuts rows
+
 -- ---- a question
 
 -- both sheets, then 11, then 8: a place of one value for each state
@@ -85,3 +90,7 @@ unfoldable pub askEntry : List ℕ → List ℕ → List ℕ → List ℕ → As
 askEntry model s states estimates =
     let n = refusal (askChecks model s states estimates) in
     pick (eqb n 0) (askOutcome 0 (over (bytesOf (estimatesOf (taskOn model) (cutsOf s) states)) estimates)) (askOutcome n estimates)
+
+-- what `elhavir_question` promises, whatever is passed: the answer number and the list at exit
+abbrev pub EntryAsks : (model s states estimates : List ℕ) → ℕ → (estimates′ : List ℕ) → Type 0
+EntryAsks model s states estimates r estimates′ = askOutcome r estimates′ ≡ askEntry model s states estimates

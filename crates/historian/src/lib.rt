@@ -6,7 +6,7 @@ ghost use Rattle.task.specs.Sizes.{limits};
 ghost use Rattle.fields.specs.Judging.{each};
 ghost use Rattle.fields.specs.Places.{puts};
 ghost use Rattle.counts.specs.Counts.{Counted};
-ghost use Rattle.historian.specs.Entries.{valueBytes, bytesAt, answerNumber, runOutcome, runEntry, askOutcome, askEntry};
+ghost use Rattle.historian.specs.Entries.{valueBytes, bytesAt, answerNumber, EntryRuns, EntryAsks};
 use counts::cut_values;
 use counts::row_values;
 use counts::usable_places;
@@ -74,7 +74,7 @@ fn run_in(
     rows: &mut [u8],
 ) -> u64
     requires { ⌜ (length (now «cut_list») ≡ (limits .blocks - 1) * 3) × (length (now «row_list») ≡ (limits .blocks - 1) * 3) ⌝ }
-    ensures { λ r. ⌜ runOutcome r (now (cuts .exit)) (now (rows .exit)) ≡ runEntry (now (sheet .entry)) room (now (cuts .entry)) (now (rows .entry)) ⌝ }
+    ensures { λ r. ⌜ EntryRuns (now (sheet .entry)) room (now (cuts .entry)) (now (rows .entry)) r (now (cuts .exit)) (now (rows .exit)) ⌝ }
 {
     let m = usable_places(Model::BLOCKS - 1, cuts.len() / 12) * 3;
     let n = usable_places(Model::BLOCKS - 1, rows.len() / 12) * 3;
@@ -87,7 +87,7 @@ fn run_in(
 // A question on lists of bytes, with a list of numbers to work in.
 fn ask_in(model: &[u8], sheet: &[u8], states: &[u8], list: &mut [u32], estimates: &mut [u8]) -> u32
     requires { ⌜ length (now list) ≡ limits .states ⌝ }
-    ensures { λ r. ⌜ askOutcome r (now (estimates .exit)) ≡ askEntry (now (model .entry)) (now (sheet .entry)) (now (states .entry)) (now (estimates .entry)) ⌝ }
+    ensures { λ r. ⌜ EntryAsks (now (model .entry)) (now (sheet .entry)) (now (states .entry)) (now (estimates .entry)) r (now (estimates .exit)) ⌝ }
 {
     let n = usable_places(Model::STATES, estimates.len() / 4);
     match question(model, sheet, states, &mut list[..n]) {
@@ -102,7 +102,7 @@ fn ask_in(model: &[u8], sheet: &[u8], states: &[u8], list: &mut [u32], estimates
 // A run: three values of four bytes each for a cut and for a row. The answer is one number.
 #[no_mangle]
 pub extern "C" fn elhavir_run(sheet: &[u8], room: u32, cuts: &mut [u8], rows: &mut [u8]) -> u64
-    ensures { λ r. ⌜ runOutcome r (now (cuts .exit)) (now (rows .exit)) ≡ runEntry (now (sheet .entry)) room (now (cuts .entry)) (now (rows .entry)) ⌝ }
+    ensures { λ r. ⌜ EntryRuns (now (sheet .entry)) room (now (cuts .entry)) (now (rows .entry)) r (now (cuts .exit)) (now (rows .exit)) ⌝ }
 {
     let mut cut_list = [0u32; (Model::BLOCKS - 1) * 3];
     let mut row_list = [0u32; (Model::BLOCKS - 1) * 3];
@@ -117,7 +117,7 @@ pub extern "C" fn elhavir_question(
     states: &[u8],
     estimates: &mut [u8],
 ) -> u32
-    ensures { λ r. ⌜ askOutcome r (now (estimates .exit)) ≡ askEntry (now (model .entry)) (now (sheet .entry)) (now (states .entry)) (now (estimates .entry)) ⌝ }
+    ensures { λ r. ⌜ EntryAsks (now (model .entry)) (now (sheet .entry)) (now (states .entry)) (now (estimates .entry)) r (now (estimates .exit)) ⌝ }
 {
     let mut list = [0u32; Model::STATES];
     ask_in(model, sheet, states, &mut list, estimates)

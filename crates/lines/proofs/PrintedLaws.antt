@@ -20,7 +20,7 @@ use Rattle.cut_reading.proofs.RebuildLaws.{rest-all}
 use Rattle.io.specs.Counts.{Counts}
 use Rattle.running.specs.declared.Answer.{Answer}
 use Rattle.running.specs.declared.Answer.the-variants.{Plan, NoPlan, Open, Refused}
-use Rattle.running.specs.Running.{roomChecks, runChecks, outcome, running}
+use Rattle.running.specs.Running.{roomChecks, runChecks, Runs}
 use Rattle.counts.specs.Counts.{rowCount, rowValueCount, Counted}
 use Rattle.counts.proofs.CountLaws as count
 use Rattle.lines.specs.Lines.{decimal, labelled, planText, noPlanText, openText, refusedText, stepsText, blocksText, space, lineEnd, firstLine, rowLine, rowLines, madeLines, ranLines, printed, Put}
@@ -73,7 +73,7 @@ module _ (s : List ℕ) (room : ℕ) (c r : List ℕ) (h : (length c ≡ 765) ×
   unfolding runChecks
   checks-same = refusal-append (sheetChecks s) _ ∙ ap (λ (x : ℕ). refusal (sheetChecks s) then x) room-same ∙ sym (refusal-append (sheetChecks s) (roomChecks room c r))
 
-  module _ {a : Answer} {c′ r′ : List ℕ} (e : outcome a c′ r′ ≡ running s room c r) where
+  module _ {a : Answer} {c′ r′ : List ℕ} (e : Runs s room c r a c′ r′) where
     pub counted : Counted a
     counted = count.known s room c r e .counted
 

@@ -91,3 +91,7 @@ printed input = pick (ltb (length input) 2) (firstLine (Refused 1)) (ranLines (d
 pub record Put (at : ℕ) (xs l : List ℕ) (r : ℕ) (l′ : List ℕ) : Type 0 where
   pub next : r ≡ at + length xs
   pub bytes : l′ ≡ puts at xs l
+
+-- what `put_printed` promises for every input: how many bytes it put, and the buffer at exit
+abbrev pub Prints : (input out : List ℕ) → ℕ → (out′ : List ℕ) → Type 0
+Prints input out r out′ = Put 0 (printed input) out r out′

@@ -5,7 +5,7 @@ ghost use lib.ListN.{length};
 ghost use Rattle.counts.specs.Counts.{Counted};
 ghost use Rattle.io.specs.Counts.{Counts};
 ghost use Rattle.fields.specs.Judging.{each};
-ghost use Rattle.lines.specs.Lines.{decimal, labelled, firstLine, rowLine, Put, ranLines, printed};
+ghost use Rattle.lines.specs.Lines.{decimal, labelled, firstLine, rowLine, Put, ranLines, Prints};
 use counts::row_values;
 use fields::field::field;
 use planner::Answer;
@@ -123,7 +123,7 @@ fn put_run(sheet: &[u8], room: u32, cuts: &mut [u32], rows: &mut [u32], out: &mu
 // What the program prints for an input: the room in 16 bits, then a model sheet. It returns how many bytes were put.
 pub fn put_printed(input: &[u8], out: &mut [u8]) -> usize
     requires { ⌜ 65536 ≤ length (now out) ⌝ }
-    ensures { λ r. ⌜ Put 0 (printed (now (input .entry))) (now (out .entry)) r (now (out .exit)) × Counts r (now (out .exit)) ⌝ }
+    ensures { λ r. ⌜ Prints (now (input .entry)) (now (out .entry)) r (now (out .exit)) × Counts r (now (out .exit)) ⌝ }
 {
     if input.len() < 2 {
         return put_first_line(Answer::Refused(1), out);

@@ -29,7 +29,7 @@ use Rattle.cut_sheets.proofs.CutSheetLaws.{sheet-accepted}
 use Rattle.cut_sheets.proofs.JudgeLaws.{count-below}
 use Rattle.asking.specs.declared.Asked.{Asked}
 use Rattle.asking.specs.declared.Asked.the-variants.{Estimates, Refused}
-use Rattle.asking.specs.Question.{Outcome, stateIn, statesIn, badStates, estimateAt, estimatesOf, valued, questionChecks, outcome, number, asking}
+use Rattle.asking.specs.Question.{Outcome, stateIn, statesIn, badStates, estimateAt, estimatesOf, valued, questionChecks, outcome, number, asking, Asks}
 use Rattle.asking.proofs.AnswerLaws.{state-good}
 use Rattle.question_laws.proofs.Refusals.{asker}
 
@@ -111,7 +111,7 @@ module _ (model s : List ℕ) (fine : refusal (cutSheetChecks model s) ≡ 0) wh
     value-most = mark-highest (estimate t cs x) bounded
 
 -- ---- a question that was answered
-module _ (model s states est : List ℕ) {n : ℕ} {next : List ℕ} (done : outcome (Estimates n) next ≡ asking model s states est) where
+module _ (model s states est : List ℕ) {n : ℕ} {next : List ℕ} (done : Asks model s states est (Estimates n) next) where
   abbrev m : Task
   m = taskOn model
 

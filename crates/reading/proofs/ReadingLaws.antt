@@ -15,18 +15,18 @@ use Rattle.sheets.specs.ModelSheet.{columnsOf, stepsOf, columnOn, costOn, marks
 use Rattle.sheets.specs.LentTables.{columnValues, costValue, stepValues, frameOf, costsOf, marksOf, readChecks}
 use Rattle.sheets.proofs.TableLaws.{frame-length, costs-length, marks-length}
 use Rattle.reading.specs.declared.ModelRead.the-variants.{Held, Refused}
-use Rattle.reading.specs.Reading.{outcome, reading}
+use Rattle.reading.specs.Reading.{outcome, reading, ReadsModel}
 
 module _ (s frame costs marks : List ℕ) where
   -- the checks of the places
   abbrev places : ℕ → ℕ → List Check
   places n m = check 8 (ltb (length frame) (n * 3)) ∷ check 8 (ltb (length costs) m) ∷ check 8 (ltb (length marks) (m * (n * 2))) ∷ []
 
-  refused : {r : ℕ} → r ≡ refusal (readChecks s frame costs marks) → (r ≡ 0 → ⊥) → outcome (Refused r) frame costs marks ≡ reading s frame costs marks
+  refused : {r : ℕ} → r ≡ refusal (readChecks s frame costs marks) → (r ≡ 0 → ⊥) → ReadsModel s frame costs marks (Refused r) frame costs marks
   unfolding reading
   refused e z = refused-is (λ n. outcome (Refused n) frame costs marks) (readChecks s frame costs marks) _ e z
 
-  pub sheet-refused : {r : ℕ} → r ≡ judgeSheet s → (r ≡ 0 → ⊥) → outcome (Refused r) frame costs marks ≡ reading s frame costs marks
+  pub sheet-refused : {r : ℕ} → r ≡ judgeSheet s → (r ≡ 0 → ⊥) → ReadsModel s frame costs marks (Refused r) frame costs marks
   unfolding judgeSheet readChecks
   sheet-refused e h = refused (e ∙ sym (refusal-append (sheetChecks s) (places (columnsOf s) (stepsOf s)) ∙ stop (refusal (sheetChecks s)) _ (λ z. h (e ∙ z)))) h
 
@@ -38,7 +38,7 @@ module _ (s frame costs marks : List ℕ) where
     same : b ≡ refusal (readChecks s frame costs marks)
     same = e ∙ ap₂ (λ (x y : ℕ). refusal (places x y)) qn qm ∙ sym (after-sheet ok)
 
-    pub places-refused : (b ≡ 0 → ⊥) → outcome (Refused b) frame costs marks ≡ reading s frame costs marks
+    pub places-refused : (b ≡ 0 → ⊥) → ReadsModel s frame costs marks (Refused b) frame costs marks
     places-refused h = refused same h
 
     -- enough places
@@ -49,7 +49,7 @@ module _ (s frame costs marks : List ℕ) where
         let f = passed 8 _ _ (omega arith) (d .1) in
         (ltb-false (length frame) (n * 3) (a .0), ltb-false (length costs) m (d .0), ltb-false (length marks) (m * (n * 2)) (f .0))
 
-    pub held : b ≡ 0 → {f c k : List ℕ} → f ≡ puts 0 (each n (columnValues (columnOn s))) frame → c ≡ puts 0 (each m (costValue (costOn s n))) costs → k ≡ puts 0 (each m (stepValues (marksOn s n) n)) marks → outcome (Held n m) f c k ≡ reading s frame costs marks
+    pub held : b ≡ 0 → {f c k : List ℕ} → f ≡ puts 0 (each n (columnValues (columnOn s))) frame → c ≡ puts 0 (each m (costValue (costOn s n))) costs → k ≡ puts 0 (each m (stepValues (marksOn s n) n)) marks → ReadsModel s frame costs marks (Held n m) f c k
     unfolding reading over frameOf costsOf marksOf ofSheet sheetWith
     held z {f} {c} {k} ef ec ek =
         simp (eq-eqb (refusal (readChecks s frame costs marks)) 0 (sym same ∙ z))

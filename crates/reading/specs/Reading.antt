@@ -1,5 +1,6 @@
 -- Reading a model sheet into lent tables: the answer, and what the tables then hold.
 use Prim.Native.Nat.{ℕ}
+use mathlib.Core.Path.{_≡_}
 use mathlib.Core.List.{List}
 use lib.Dec.{eqb}
 use Rattle.task.specs.Loops.{over}
@@ -30,3 +31,7 @@ reading s frame costs marks =
     pick (eqb n 0)
     (outcome (Held (columnsOf s) (stepsOf s)) (over (frameOf (ofSheet s)) frame) (over (costsOf (ofSheet s)) costs) (over (marksOf (ofSheet s)) marks))
     (outcome (Refused n) frame costs marks)
+
+-- what `read_model` promises, whatever is passed: the answer and the three tables at exit
+abbrev pub ReadsModel : (sheet frame costs marks : List ℕ) → ModelRead → (frame′ costs′ marks′ : List ℕ) → Type 0
+ReadsModel sheet frame costs marks r frame′ costs′ marks′ = outcome r frame′ costs′ marks′ ≡ reading sheet frame costs marks

@@ -9,7 +9,7 @@ ghost use Rattle.fields.specs.Judging.{check, refusal, each};
 ghost use Rattle.fields.specs.Places.{puts};
 ghost use Rattle.sheets.specs.ModelSheet.{columnOn, costOn, marksOn};
 ghost use Rattle.sheets.specs.LentTables.{columnValues, costValue, markValues, stepValues};
-ghost use Rattle.reading.specs.Reading.{outcome, reading};
+ghost use Rattle.reading.specs.Reading.{ReadsModel};
 use fields::field::field;
 use sheets::judge_sheet;
 use sheets::model_bits;
@@ -107,7 +107,8 @@ fn fill_marks(s: &[u8], n: usize, m: usize, marks: &mut [u8])
 // Reads a model sheet into tables: `frame` takes size, start and goal mark for each column, `costs` the cost of each step, `marks` the need
 // mark and the effect mark for each column of each step.
 pub fn read_model(sheet: &[u8], frame: &mut [u8], costs: &mut [u16], marks: &mut [u8]) -> ModelRead
-    ensures { λ r. ⌜ outcome r (now (frame .exit)) (now (costs .exit)) (now (marks .exit)) ≡ reading (now (sheet .entry)) (now (frame .entry)) (now (costs .entry)) (now (marks .entry)) ⌝ }
+    ensures { λ r. ⌜ ReadsModel (now (sheet .entry)) (now (frame .entry)) (now (costs .entry)) (now (marks .entry)) r
+        (now (frame .exit)) (now (costs .exit)) (now (marks .exit)) ⌝ }
 {
     let a = judge_sheet(sheet);
     if a != 0 {

@@ -17,7 +17,7 @@ use Rattle.task.proofs.LoopLaws.{true-or-false, all-at, all-intro, tab-length, 
 use Rattle.run.specs.declared.Row.{Row}
 use Rattle.refining.specs.Listing.{listed, rowPlace}
 use Rattle.refining.proofs.CutListLaws.{listed-three}
-use Rattle.rows.specs.Rows.{rowIn, stepsNamed, fitting, filled, filling}
+use Rattle.rows.specs.Rows.{rowIn, stepsNamed, fitting, filled, filling, PutsRows}
 
 -- ---- how many rows are put
 module _ (places : ℕ) (vs : List ℕ) (n : ℕ) where
@@ -80,7 +80,7 @@ front-length rows vs i = over-length i (rowIn vs) rows
 pub front-more : (rows : List Row) (vs : List ℕ) (i : ℕ) (r : Row) → r ≡ rowIn vs i → i < length rows → set (front rows vs i) i r ≡ front rows vs (i + 1)
 front-more rows vs i r e h = ap (set (front rows vs i) i) e ∙ sym (over-more i (rowIn vs) rows h)
 
-pub front-all : (rows : List Row) (vs : List ℕ) (n m : ℕ) → m ≡ fitting (length rows) vs n → filled m (front rows vs m) ≡ filling rows vs n
+pub front-all : (rows : List Row) (vs : List ℕ) (n m : ℕ) → m ≡ fitting (length rows) vs n → PutsRows rows vs n m (front rows vs m)
 unfolding filling
 front-all rows vs n m e = ap (λ (k : ℕ). filled k (front rows vs k)) e
 

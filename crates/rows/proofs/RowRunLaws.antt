@@ -34,7 +34,7 @@ use Rattle.running.proofs.RowLaws.{row-each}
 use Rattle.counts.specs.Counts.{rowCount, usable}
 use Rattle.counts.proofs.CountLaws as count
 use Rattle.counts.proofs.UsableLaws.{usable-is, at-most, same-test}
-use Rattle.rows.specs.Rows.{filling, rowChecks, outcome, rowRun}
+use Rattle.rows.specs.Rows.{filling, rowChecks, rowRun, RowRuns}
 use Rattle.rows.proofs.FillLaws.{listed-long, listed-put, nothing-put}
 
 -- ---- a plan's rows each name a step
@@ -84,7 +84,7 @@ module _ (s : List ℕ) (room : ℕ) (cuts : List ℕ) (lent : List Row) (list :
   unfolding rowChecks runChecks
   checks-same = refusal-append (sheetChecks s) _ ∙ ap (λ (x : ℕ). refusal (sheetChecks s) then x) room-same ∙ sym (refusal-append (sheetChecks s) (roomChecks room cuts list))
 
-  module _ {a : Answer} {c v : List ℕ} (e : running.outcome a c v ≡ running.running s room cuts list) (vs : List ℕ) where
+  module _ {a : Answer} {c v : List ℕ} (e : running.Runs s room cuts list a c v) (vs : List ℕ) where
     abbrev t : Task
     t = taskOn s
 
@@ -95,7 +95,7 @@ module _ (s : List ℕ) (room : ℕ) (cuts : List ℕ) (lent : List Row) (list :
     planned = rowsOf t (o .answer)
 
     abbrev Told : Type 0
-    Told = outcome a c (filling lent (v ++ vs) (rowCount a) .rows) ≡ rowRun s room cuts lent
+    Told = RowRuns s room cuts lent a c (filling lent (v ++ vs) (rowCount a) .rows)
 
     put : count.Ran s room cuts list a c v → filling lent (v ++ vs) (rowCount a) .rows ≡ over planned lent
     unfolding over
@@ -128,8 +128,8 @@ module _ (s : List ℕ) (room : ℕ) (cuts : List ℕ) (lent : List Row) (list :
 
 -- ---- the same with the first values of a list to work in
 pub told-in : (s : List ℕ) (room places : ℕ) (cuts values : List ℕ) → length values ≡ 765 → {m : ℕ} → m ≡ usable 255 places → {a : Answer} {c v : List ℕ}
-    → running.outcome a c v ≡ running.running s room cuts (take (m * 3) values) → (lent : List Row) → length lent ≡ places
-    → outcome a c (filling lent (v ++ drop (m * 3) values) (rowCount a) .rows) ≡ rowRun s room cuts lent
+    → running.Runs s room cuts (take (m * 3) values) a c v → (lent : List Row) → length lent ≡ places
+    → RowRuns s room cuts lent a c (filling lent (v ++ drop (m * 3) values) (rowCount a) .rows)
 told-in s room places cuts values h {m} p e lent q =
     let long = length-take-le (m * 3) values (omega (arith, at-most 255 places p)) ∙ ap (λ (x : ℕ). x * 3) (p ∙ ap (usable 255) (sym q)) in
     row-told s room cuts lent (take (m * 3) values) long e (drop (m * 3) values)

@@ -1,5 +1,6 @@
 -- 01, "A run" and "Places and their forms": the rows of the change sheet in a lent list of rows.
 use Prim.Native.Nat.{ℕ, _+_, _-_, _*_, _/_}
+use mathlib.Core.Path.{_≡_}
 use mathlib.Core.Bool.{Bool}
 use mathlib.Core.List.{List, [], _∷_, _++_}
 use lib.Dec.{eqb, ltb}
@@ -43,6 +44,10 @@ filled n rows = record { count = n; rows = rows }
 unfoldable pub filling : List Row → List ℕ → ℕ → Filled
 filling rows vs n = let m = fitting (length rows) vs n in filled m (over (tab m (rowIn vs)) rows)
 
+-- what `put_rows` promises, whatever is passed: how many rows were put, and the list at exit
+abbrev pub PutsRows : (rows : List Row) (values : List ℕ) (n : ℕ) → ℕ → (rows′ : List Row) → Type 0
+PutsRows rows values n r rows′ = filled r rows′ ≡ filling rows values n
+
 -- ---- a run whose rows are lent so
 
 -- the sheet, then 7, then 8: cuts and rows each need room less 1 places
@@ -65,3 +70,7 @@ rowRun s room cuts rows =
     let t = taskOn s in
     let o = run.run t room in
     pick (eqb n 0) (outcome (told t (blockCount o) (o .answer)) (over (listed cutPlace (o .made)) cuts) (over (rowsOf t (o .answer)) rows)) (outcome (Refused n) cuts rows)
+
+-- what `run` promises, whatever is passed: the answer and the two lists at exit
+abbrev pub RowRuns : (s : List ℕ) (room : ℕ) (cuts : List ℕ) (rows : List Row) → Answer → (cuts′ : List ℕ) (rows′ : List Row) → Type 0
+RowRuns s room cuts rows r cuts′ rows′ = outcome r cuts′ rows′ ≡ rowRun s room cuts rows

@@ -6,7 +6,7 @@ ghost use lib.ListN.{length, getD};
 ghost use Rattle.task.specs.Sizes.{limits};
 ghost use Rattle.run.specs.declared.Row.{Row};
 ghost use Rattle.counts.specs.Counts.{rowCount};
-ghost use Rattle.rows.specs.Rows.{rowIn, stepsNamed, fitting, filled, filling, outcome, rowRun};
+ghost use Rattle.rows.specs.Rows.{rowIn, stepsNamed, fitting, filling, PutsRows, RowRuns};
 use counts::usable_places;
 use planner::Answer;
 pub use run::Row;
@@ -59,7 +59,7 @@ fn row_at(values: &[u32], i: usize) -> Row
 
 // Puts n rows over the front of the list, or none, and says how many.
 pub fn put_rows(rows: &mut [Row], values: &[u32], n: usize) -> usize
-    ensures { λ r. ⌜ filled r (now (rows .exit)) ≡ filling (now (rows .entry)) (now (values .entry)) n ⌝ }
+    ensures { λ r. ⌜ PutsRows (now (rows .entry)) (now (values .entry)) n r (now (rows .exit)) ⌝ }
 {
     let m = rows_fit(rows.len(), values, n);
     let mut i: usize = 0;
@@ -92,7 +92,8 @@ fn row_count(answer: Answer) -> usize
 // A run for so many places of rows, with a list for their values: whoever puts the rows from it has the run.
 fn run_for(sheet: &[u8], room: u32, places: usize, cuts: &mut [u32], values: &mut [u32]) -> Answer
     requires { ⌜ length (now values) ≡ (limits .blocks - 1) * 3 ⌝ }
-    ensures { λ r. ⌜ ((rows : List Row) → length rows ≡ places → outcome r (now (cuts .exit)) (filling rows (now (values .exit)) (rowCount r) .rows) ≡ rowRun (now (sheet .entry)) room (now (cuts .entry)) rows) ⌝ }
+    ensures { λ r. ⌜ ((rows : List Row) → length rows ≡ places
+        → RowRuns (now (sheet .entry)) room (now (cuts .entry)) rows r (now (cuts .exit)) (filling rows (now (values .exit)) (rowCount r) .rows)) ⌝ }
 {
     let n = usable_places(Model::BLOCKS - 1, places) * 3;
     planner::run(sheet, room, cuts, &mut values[..n])
@@ -100,7 +101,7 @@ fn run_for(sheet: &[u8], room: u32, places: usize, cuts: &mut [u32], values: &mu
 
 // A run whose rows are lent as structs.
 pub fn run(sheet: &[u8], room: u32, cuts: &mut [u32], rows: &mut [Row]) -> Answer
-    ensures { λ r. ⌜ outcome r (now (cuts .exit)) (now (rows .exit)) ≡ rowRun (now (sheet .entry)) room (now (cuts .entry)) (now (rows .entry)) ⌝ }
+    ensures { λ r. ⌜ RowRuns (now (sheet .entry)) room (now (cuts .entry)) (now (rows .entry)) r (now (cuts .exit)) (now (rows .exit)) ⌝ }
 {
     let mut values = [0u32; (Model::BLOCKS - 1) * 3];
     let answer = run_for(sheet, room, rows.len(), cuts, &mut values);

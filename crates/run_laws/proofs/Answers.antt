@@ -30,7 +30,7 @@ use Rattle.run.proofs.RunLaws.{Cheapest, NoPlan as NonePlans, Right, run-right}
 use Rattle.refining.specs.Listing.{listed, cutPlace, rowPlace}
 use Rattle.running.specs.declared.Answer.{Answer}
 use Rattle.running.specs.declared.Answer.the-variants.{Plan, NoPlan, Open, Refused}
-use Rattle.running.specs.Running.{roomChecks, runChecks, told, number, Outcome, outcome, made, running}
+use Rattle.running.specs.Running.{roomChecks, runChecks, told, number, Outcome, outcome, made, running, Runs}
 use Rattle.running.proofs.RunningLaws.{room-fits}
 use Rattle.run_laws.proofs.Refusals.{runner}
 use Rattle.run_laws.proofs.Flaws.{OnePerFlaw, one-per-flaw}
@@ -101,7 +101,7 @@ module _ (s : List ℕ) (room : ℕ) (cuts rows₀ : List ℕ) where
     pub within : length made + 1 ≤ room
     pub says : Says t room made rows₀ rows′ a
 
-  module _ {a : Answer} {cuts′ rows′ : List ℕ} (done : outcome a cuts′ rows′ ≡ running s room cuts rows₀) (kind : number a ≡ 0) where
+  module _ {a : Answer} {cuts′ rows′ : List ℕ} (done : Runs s room cuts rows₀ a cuts′ rows′) (kind : number a ≡ 0) where
     quiet : refusal (runChecks s room cuts rows₀) ≡ 0
     quiet = sym (runner s room cuts rows₀ .told) ∙ ap (λ (o : Outcome). number (o .answer)) (sym done) ∙ kind
 

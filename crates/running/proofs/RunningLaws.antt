@@ -30,7 +30,7 @@ use Rattle.refining.specs.Listing.{listed, rowPlace, pathSteps}
 use Rattle.refining.specs.Refining.{answerOf, blocksTold, KnownEnd, StepsFit, RunEnds}
 use Rattle.running.specs.declared.Answer.{Answer}
 use Rattle.running.specs.declared.Answer.the-variants.{Plan, Refused}
-use Rattle.running.specs.Running.{PathCosts, roomChecks, runChecks, told, outcome, running}
+use Rattle.running.specs.Running.{PathCosts, roomChecks, runChecks, told, outcome, running, Runs}
 use Rattle.running.specs.Running as specs
 
 -- ---- the room and the lists
@@ -113,7 +113,7 @@ unfolding told rowsOf pathSteps
 plan-told t n blocks path list₀ r = (rw (tab-length n (stepIn path)) (ap (λ (k : ℕ). Plan k n blocks) (r .0)), r .1)
 
 module _ (s : List ℕ) (room : ℕ) (cuts rows : List ℕ) where
-  refusing : {r : ℕ} → r ≡ refusal (runChecks s room cuts rows) → (r ≡ 0 → ⊥) → outcome (Refused r) cuts rows ≡ running s room cuts rows
+  refusing : {r : ℕ} → r ≡ refusal (runChecks s room cuts rows) → (r ≡ 0 → ⊥) → Runs s room cuts rows (Refused r) cuts rows
   unfolding running
   refusing e z = refused-is (λ n. outcome (Refused n) cuts rows) (runChecks s room cuts rows) _ e z
 
@@ -123,7 +123,7 @@ module _ (s : List ℕ) (room : ℕ) (cuts rows : List ℕ) where
     code = read-code s e
 
     -- a refusal of the sheet
-    pub sheet-refused : (read .code ≡ 0 → ⊥) → outcome (Refused (read .code)) cuts rows ≡ running s room cuts rows
+    pub sheet-refused : (read .code ≡ 0 → ⊥) → Runs s room cuts rows (Refused (read .code)) cuts rows
     unfolding runChecks
     sheet-refused z = refusing (code ∙ sym (refusal-append (sheetChecks s) _ ∙ stop (refusal (sheetChecks s)) _ (λ q. z (code ∙ q)))) z
 
@@ -134,7 +134,7 @@ module _ (s : List ℕ) (room : ℕ) (cuts rows : List ℕ) where
 
       module _ {r : ℕ} (j : r ≡ refusal (roomChecks room cuts rows)) where
         -- a refusal of the room or of the lists
-        pub room-refused : (r ≡ 0 → ⊥) → outcome (Refused r) cuts rows ≡ running s room cuts rows
+        pub room-refused : (r ≡ 0 → ⊥) → Runs s room cuts rows (Refused r) cuts rows
         room-refused n = refusing (after j) n
 
         module _ (k : r ≡ 0) where
@@ -156,7 +156,7 @@ module _ (s : List ℕ) (room : ℕ) (cuts rows : List ℕ) where
 
             -- the run is made
             pub ran : {a : Answer} {rows′ : List ℕ} → (a ≡ told t (blocksTold o) (answerOf o path)) × (rows′ ≡ over (listed rowPlace (rowsOf t (answerOf o path))) rows)
-                → outcome a cuts′ rows′ ≡ running s room cuts rows
+                → Runs s room cuts rows a cuts′ rows′
             unfolding running specs.made run.run
             ran {a} {rows′} p =
                 let q : 0 ≡ refusal (runChecks s room cuts rows) = after (sym (sym j ∙ k)) in

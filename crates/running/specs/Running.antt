@@ -63,6 +63,10 @@ running s room cuts rows =
     let n = refusal (runChecks s room cuts rows) in
     pick (eqb n 0) (made (taskOn s) (run.run (taskOn s) room) cuts rows) (outcome (Refused n) cuts rows)
 
+-- what `run` promises, whatever is passed: the answer and the two lists at exit
+abbrev pub Runs : (s : List ℕ) (room : ℕ) (cuts rows : List ℕ) → Answer → (cuts′ rows′ : List ℕ) → Type 0
+Runs s room cuts rows r cuts′ rows′ = outcome r cuts′ rows′ ≡ running s room cuts rows
+
 -- ---- what code knows of a path
 
 -- its first n steps cost what a table says

@@ -9,7 +9,7 @@ ghost use Rattle.fields.specs.Judging.{refusal};
 ghost use Rattle.run.specs.Run.{rows, rowsOf};
 ghost use Rattle.refining.specs.Listing.{listed, rowPlace, pathSteps};
 ghost use Rattle.refining.specs.Refining.{answerOf, blocksTold, KnownEnd, StepsFit};
-ghost use Rattle.running.specs.Running.{Costed, PathCosts, roomChecks, told, outcome, running};
+ghost use Rattle.running.specs.Running.{Costed, PathCosts, roomChecks, told, Runs};
 use refining::Ended;
 use refining::refine;
 use task::Model;
@@ -105,7 +105,7 @@ fn tell(
 
 // Judges a model sheet, the room and the lists, makes the run, and fills the lists with its cuts and the rows of its plan.
 pub fn run(sheet: &[u8], room: u32, cuts: &mut [u32], rows: &mut [u32]) -> Answer
-    ensures { λ r. ⌜ outcome r (now (cuts .exit)) (now (rows .exit)) ≡ running (now (sheet .entry)) room (now (cuts .entry)) (now (rows .entry)) ⌝ }
+    ensures { λ r. ⌜ Runs (now (sheet .entry)) room (now (cuts .entry)) (now (rows .entry)) r (now (cuts .exit)) (now (rows .exit)) ⌝ }
 {
     let read = unpack_model(sheet);
     let code = read.code;

@@ -1,12 +1,13 @@
 -- Writing a model sheet from lent tables: the answer, and what the lent bytes then hold.
 use Prim.Native.Nat.{ℕ}
+use mathlib.Core.Path.{_≡_}
 use mathlib.Core.List.{List}
 use lib.Dec.{eqb}
 use Rattle.task.specs.Loops.{over}
 use Rattle.fields.specs.Judging.{pick, refusal}
 use Rattle.fields.specs.Packing.{sheetOf}
 use Rattle.sheets.specs.ModelSheet.{Source, columnsIn, stepsIn, entries, modelBytes}
-use Rattle.sheets.specs.LentTables.{writeChecks}
+use Rattle.sheets.specs.LentTables.{ofTables, writeChecks}
 use Rattle.writing.specs.declared.write.SheetWritten.{SheetWritten}
 use Rattle.writing.specs.declared.write.SheetWritten.the-variants.{Sheet, Refused}
 
@@ -27,3 +28,7 @@ unfoldable pub writing : Source → List ℕ → Outcome
 writing p sheet =
     let n = refusal (writeChecks p sheet) in
     pick (eqb n 0) (outcome (Sheet (modelBytes (columnsIn p) (stepsIn p))) (over (sheetOf (entries p)) sheet)) (outcome (Refused n) sheet)
+
+-- what `write_model` promises, whatever is passed: the answer and the bytes at exit
+abbrev pub WritesModel : (columns steps : ℕ) (frame costs marks sheet : List ℕ) → SheetWritten → (sheet′ : List ℕ) → Type 0
+WritesModel columns steps frame costs marks sheet r sheet′ = outcome r sheet′ ≡ writing (ofTables columns steps frame costs marks) sheet

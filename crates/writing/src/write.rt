@@ -1,7 +1,5 @@
 // Writes a model from lent tables as a sheet.
-ghost use mathlib.Core.Path.{_≡_};
-ghost use Rattle.sheets.specs.LentTables.{ofTables};
-ghost use Rattle.writing.specs.Writing.{outcome, writing};
+ghost use Rattle.writing.specs.Writing.{WritesModel};
 use crate::given::judge_given;
 use crate::put::put_sheet;
 use sheets::model_bits;
@@ -21,7 +19,8 @@ pub fn write_model(
     marks: &[u8],
     sheet: &mut [u8],
 ) -> SheetWritten
-    ensures { λ r. ⌜ outcome r (now (sheet .exit)) ≡ writing (ofTables columns steps (now (frame .entry)) (now (costs .entry)) (now (marks .entry))) (now (sheet .entry)) ⌝ }
+    ensures { λ r. ⌜ WritesModel columns steps (now (frame .entry)) (now (costs .entry)) (now (marks .entry)) (now (sheet .entry)) r
+        (now (sheet .exit)) ⌝ }
 {
     let a = judge_given(columns, steps, frame, costs, marks);
     if a != 0 {

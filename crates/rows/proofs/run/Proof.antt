@@ -50,7 +50,7 @@ use Rattle.running.specs.declared.Answer.{Answer}
 use Rattle.running.proofs.Answer as E
 use Rattle.running.proofs.Answer.Laws as E′
 use Rattle.counts.specs.Counts.{rowCount}
-use Rattle.rows.specs.Rows.{filled, filling, outcome, rowRun}
+use Rattle.rows.specs.Rows.{filling, outcome, RowRuns, PutsRows}
 use Rattle.rows.proofs.LentLaws.{arrayTy, MutOf, ShrOf, Elems, lend-mut, lend-shr, elems-room}
 use Rattle.rows.proofs.run_for as run-for
 use Rattle.rows.proofs.run_for.Symbol as run-for-def
@@ -149,7 +149,7 @@ module _ {M : Type 1} (𝓤 : URA M) (H : Heap 𝓤) (A : Atoms 𝓤) (W : Given
   said-count a n = exE 𝓤 _ (λ ws. snd∗ 𝓤 (sem 𝓤 H A (lasts row-count.ended tt (a, tt) ws)) (fact 𝓤 (n ≡ rowCount a)))
 
   -- ---- the walk's end
-  exits : (a : Answer) (u : Val) → Says a u → (c′ : List ℕ) → length c′ ≡ length (c .now) → (r′ : List Row) → length r′ ≡ length (r .now) → outcome a c′ r′ ≡ rowRun (s .now) room (c .now) (r .now)
+  exits : (a : Answer) (u : Val) → Says a u → (c′ : List ℕ) → length c′ ≡ length (c .now) → (r′ : List Row) → length r′ ≡ length (r .now) → RowRuns (s .now) room (c .now) (r .now) a c′ r′
       → ent 𝓤 (⋆ 𝓤 H A (‵ (flft κ₀ q₀) ∷ ‵ (flft κ₁ q₁) ∷ ‵ (flft κ₂ q₂) ∷ ‵ Sheet ∷ ‵ (finally u32 (c .name) c′) ∷ ‵ (finally T.the-row (r .name) r′) ∷ [])) (Post u)
   exits a u is c′ lc r′ lr e =
       qed W (‵ (flft κ₀ q₀) ∷ ‵ (flft κ₁ q₁) ∷ ‵ (flft κ₂ q₂) ∷ ‵ Sheet ∷ ‵ (finally u32 (c .name) c′) ∷ ‵ (finally T.the-row (r .name) r′) ∷ []) ∵
@@ -183,7 +183,7 @@ module _ {M : Type 1} (𝓤 : URA M) (H : Heap 𝓤) (A : Atoms 𝓤) (W : Given
 
     -- what it ensures of the answer, the cuts and the values
     abbrev Told : Answer → List ℕ → List ℕ → Type 0
-    Told a c′ v = (rows : List Row) → length rows ≡ length (r .now) → outcome a c′ (filling rows v (rowCount a) .rows) ≡ rowRun (s .now) room (c .now) rows
+    Told a c′ v = (rows : List Row) → length rows ≡ length (r .now) → RowRuns (s .now) room (c .now) rows a c′ (filling rows v (rowCount a) .rows)
 
     abbrev RunSays : ℕ → GName → Answer → Item 𝓤
     RunSays α γ a = some (λ (ws : _). ‵ (lasts run-for.ended (run-lfts α) (run-args γ) ws) ⊛ raw (fact 𝓤 (Told a (ws .1 .1 .1 .0) (ws .1 .1 .1 .1 .0))))
@@ -206,7 +206,7 @@ module _ {M : Type 1} (𝓤 : URA M) (H : Heap 𝓤) (A : Atoms 𝓤) (W : Given
         nothing ! $ move ! (2 ∷ 3 ∷ 0 ∷ []) $ group ! 3 $ join ! $ frame ! $ done !
 
     abbrev PutSays : ℕ → GName → List ℕ → ℕ → ℕ → Item 𝓤
-    PutSays β δ v n k = some (λ (ws : _). ‵ (lasts put-rows.ended (put-lfts β) (put-args δ v n) ws) ⊛ raw (fact 𝓤 (filled k (ws .0) ≡ filling (r .now) v n)))
+    PutSays β δ v n k = some (λ (ws : _). ‵ (lasts put-rows.ended (put-lfts β) (put-args δ v n) ws) ⊛ raw (fact 𝓤 (PutsRows (r .now) v n k (ws .0))))
 
   walk : (𝓣 : Tables 𝓤 H) → Triple 𝓤 (𝓣 .C #rows·run-for) (RunFor 𝓤 H A at-mem run) → Triple 𝓤 (𝓣 .C #rows·row-count) (RowCount 𝓤 H A at-mem run) → Triple 𝓤 (𝓣 .C #rows·put-rows) (PutRows 𝓤 H A at-mem run)
       → ent 𝓤 (onEntry 𝓤 H A all.signature κs (q₀, (q₁, (q₂, tt))) x at) (WpFn 𝓤 H (𝓣 .C) (𝓣 .Λ) code.function (sv ∷ vint w32 room ∷ cv ∷ rv ∷ []) Post)
@@ -264,7 +264,7 @@ module _ {M : Type 1} (𝓤 : URA M) (H : Heap 𝓤) (A : Atoms 𝓤) (W : Given
       calls-at ! (fmOf 𝓤 H (W .laws) 𝓣) (PutRows 𝓤 H A at-mem run) known-put (to-put l₅ β δ (ws .1 .1 .1 .1 .0) n)
       (and-then ! (load ! (from ! (stop !)) (look ! 15 refl)) (and-then ! (load ! (from ! (stop !)) (look ! 11 refl)) (and-then ! (load ! (from ! (stop !)) (look ! 9 refl)) (no-more !)))) (λ p.
       use1 W (later (some (λ (k : ℕ). ((‵ (flft κ₂ q₂) ⊛ ‵ (flft (β ∷ []) fullShare) ⊛ ‵ ftrue) ⊛ ‵ (usize .own k (p ∷ []))) ⊛ raw (ensured 𝓤 H A put-rows.ended (put-rows.clauses 𝓤 H A at-mem run) (put-lfts l₅ β) (put-args l₅ δ (ws .1 .1 .1 .1 .0) n) tt k)))) (id⊢ 𝓤 _) $ await ! tt $ pick ! (λ k.
-      split ! $ move ! (1 ∷ []) $ use1 W (PutSays l₅ β δ (ws .1 .1 .1 .1 .0) n k) (id⊢ 𝓤 _) $ pick ! (λ zs. split ! $ move ! (1 ∷ []) $ heard ! (filled k (zs .0) ≡ filling (r .now) (ws .1 .1 .1 .1 .0) n) (λ put.
+      split ! $ move ! (1 ∷ []) $ use1 W (PutSays l₅ β δ (ws .1 .1 .1 .1 .0) n k) (id⊢ 𝓤 _) $ pick ! (λ zs. split ! $ move ! (1 ∷ []) $ heard ! (PutsRows (r .now) (ws .1 .1 .1 .1 .0) n k (zs .0)) (λ put.
       fsplit ! $ fsplit ! $ move ! (1 ∷ []) $ feqL ! (λ lr. move ! (1 ∷ []) $ drop ! $
       -- [the rows; the tokens and the number; the lender's part; the answer; true; cuts's; sheet's; true; the cuts; sheet; the locals]
       move ! (1 ∷ []) $ split ! $ move ! (1 ∷ []) $ peeks ! usize (Is usize) (shows 𝓤 H A usize) k (p ∷ []) (λ isk.
