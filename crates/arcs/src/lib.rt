@@ -36,7 +36,7 @@ pub fn fits_in(
 {
     let rs = s * Model::COLUMNS;
     let ra = a * Model::COLUMNS;
-    blocks::all_lie(columns, rs, ra, wants, sets)
+    masks::all_lie(columns, rs, ra, wants, sets)
 }
 
 // The blocks of word w that hold a need in column j, as a mask.
@@ -48,7 +48,7 @@ fn need_word(w: usize, j: usize, need: u32, sets: &[u32; Model::BLOCKS * Model::
     let mut i: usize = 0;
     while i < WORD {
         let at = (w * WORD + i) * Model::COLUMNS + j;
-        v += bit_if(blocks::lies(need, sets[at]), i);
+        v += bit_if(masks::lies(need, sets[at]), i);
         i += 1;
     }
     v
@@ -256,7 +256,7 @@ fn is_wide(
     ensures { λ r. ⌜ r ≡ wideIn used (now (meets .entry)) (now (left .entry)) j ⌝ }
 {
     let row = j * WORDS;
-    blocks::all_lie(used, 0, row, left, meets)
+    masks::all_lie(used, 0, row, left, meets)
 }
 
 fn one_unless(t: bool) -> usize

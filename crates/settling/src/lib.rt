@@ -45,7 +45,7 @@ fn start(
 {
     let mut a: usize = 0;
     while a < count {
-        dist[a] = first_value(blocks::is_goal_block(columns, Block(a as u16), goals, sets));
+        dist[a] = first_value(masks::is_goal_block(columns, Block(a as u16), goals, sets));
         a += 1;
     }
 }

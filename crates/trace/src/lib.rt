@@ -77,7 +77,7 @@ fn fits(
     if dist[b] != rest {
         return false;
     }
-    blocks::leads(
+    masks::leads(
         columns,
         Step(s as u8),
         Block(a as u16),

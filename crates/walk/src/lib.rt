@@ -10,7 +10,7 @@ ghost use Rattle.blocks.specs.declared.Cut.{Cut};
 ghost use Rattle.distances.specs.Distances.{Distance};
 ghost use Rattle.walk.specs.Walking.{landed, backSet, isOff, takesBy, goalAtEnd, landsBy, takenBy, needRow, backRow, lowestOff, cutBy, endBy, turnBy, standsAfter, followBy, outcome, seen, Known, Begins, walked};
 use blocks::Cut;
-use blocks::all_lie;
+use masks::all_lie;
 use task::Block;
 use task::Column;
 use task::Model;

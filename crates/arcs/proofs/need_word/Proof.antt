@@ -8,7 +8,7 @@ use Rattle.arcs.proofs.need_word.Statement.{statement}
 use Rattle.arcs.proofs.need_word.Tie as tie
 use Rattle.arcs.proofs.need_word.Reads as reads
 use Rattle.arcs.proofs.need_word.Lts as lts
-use Rattle.blocks.proofs.lies.Reads as lies-reads
+use Rattle.masks.proofs.lies.Reads as lies-reads
 use Rattle.arcs.proofs.bit_if.Reads as bit-if-reads
 
 abbrev Inv-loop : tie.InvT-loop

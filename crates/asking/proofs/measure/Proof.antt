@@ -9,9 +9,9 @@ use Rattle.asking.proofs.measure.Statement.{statement}
 use Rattle.asking.proofs.measure.Tie as tie
 use Rattle.asking.proofs.measure.Reads as reads
 use Rattle.asking.proofs.measure.Lts as lts
-use Rattle.blocks.proofs.fill_goals.Reads as fill-goals-reads
-use Rattle.blocks.proofs.fill_lands.Reads as fill-lands-reads
-use Rattle.blocks.proofs.fill_needs.Reads as fill-needs-reads
+use Rattle.masks.proofs.fill_goals.Reads as fill-goals-reads
+use Rattle.masks.proofs.fill_lands.Reads as fill-lands-reads
+use Rattle.masks.proofs.fill_needs.Reads as fill-needs-reads
 use Rattle.settling.proofs.fill_distances.Reads as fill-distances-reads
 
 fill-needs-requires : tie.Need-fill-needs-requires

@@ -7,7 +7,7 @@ use Rattle.refining.proofs.cut_on.Statement.{statement}
 use Rattle.refining.proofs.cut_on.Tie as tie
 use Rattle.refining.proofs.cut_on.Reads as reads
 use Rattle.refining.proofs.cut_on.Lts as lts
-use Rattle.blocks.proofs.make_cut.Reads as make-cut-reads
+use Rattle.cutting.proofs.make_cut.Reads as make-cut-reads
 use Rattle.refining.proofs.end.Reads as end-reads
 use Rattle.refining.proofs.look.Reads as look-reads
 use Rattle.refining.proofs.put_cut.Reads as put-cut-reads

@@ -9,7 +9,7 @@ use Rattle.refining.proofs.look.Statement.{statement}
 use Rattle.refining.proofs.look.Tie as tie
 use Rattle.refining.proofs.look.Reads as reads
 use Rattle.refining.proofs.look.Lts as lts
-use Rattle.blocks.proofs.block_of.Reads as block-of-reads
+use Rattle.cutting.proofs.block_of.Reads as block-of-reads
 use Rattle.settling.proofs.fill_distances.Reads as fill-distances-reads
 use Rattle.refining.proofs.stand.Reads as stand-reads
 use Rattle.refining.proofs.told.Reads as told-reads

@@ -12,10 +12,10 @@ use Rattle.refining.proofs.refine.Statement.{statement}
 use Rattle.refining.proofs.refine.Tie as tie
 use Rattle.refining.proofs.refine.Reads as reads
 use Rattle.refining.proofs.refine.Lts as lts
-use Rattle.blocks.proofs.fill_first.Reads as fill-first-reads
-use Rattle.blocks.proofs.fill_goals.Reads as fill-goals-reads
-use Rattle.blocks.proofs.fill_lands.Reads as fill-lands-reads
-use Rattle.blocks.proofs.fill_needs.Reads as fill-needs-reads
+use Rattle.cutting.proofs.fill_first.Reads as fill-first-reads
+use Rattle.masks.proofs.fill_goals.Reads as fill-goals-reads
+use Rattle.masks.proofs.fill_lands.Reads as fill-lands-reads
+use Rattle.masks.proofs.fill_needs.Reads as fill-needs-reads
 use Rattle.refining.proofs.cut_on.Reads as cut-on-reads
 
 fill-needs-requires : tie.Need-fill-needs-requires

@@ -12,7 +12,7 @@ use Rattle.settling.proofs.start.Statement.{statement}
 use Rattle.settling.proofs.start.Tie as tie
 use Rattle.settling.proofs.start.Reads as reads
 use Rattle.settling.proofs.start.Lts as lts
-use Rattle.blocks.proofs.is_goal_block.Reads as is-goal-block-reads
+use Rattle.masks.proofs.is_goal_block.Reads as is-goal-block-reads
 use Rattle.settling.proofs.first_value.Reads as first-value-reads
 
 abbrev Inv-loop : tie.InvT-loop

@@ -8,7 +8,7 @@ use Rattle.trace.proofs.fits.Statement.{statement}
 use Rattle.trace.proofs.fits.Tie as tie
 use Rattle.trace.proofs.fits.Reads as reads
 use Rattle.trace.proofs.fits.Lts as lts
-use Rattle.blocks.proofs.leads.Reads as leads-reads
+use Rattle.masks.proofs.leads.Reads as leads-reads
 
 mul-if1 : tie.Need-mul-if1
 mul-if1 c = search needs

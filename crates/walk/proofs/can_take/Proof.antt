@@ -4,7 +4,7 @@ use Rattle.walk.proofs.can_take.Statement.{statement}
 use Rattle.walk.proofs.can_take.Tie as tie
 use Rattle.walk.proofs.can_take.Reads as reads
 use Rattle.walk.proofs.can_take.Lts as lts
-use Rattle.blocks.proofs.all_lie.Reads as all-lie-reads
+use Rattle.masks.proofs.all_lie.Reads as all-lie-reads
 
 cast-rs : tie.Need-cast-rs
 cast-rs c = search needs

@@ -4,7 +4,7 @@ use Rattle.walk.proofs.is_goal.Statement.{statement}
 use Rattle.walk.proofs.is_goal.Tie as tie
 use Rattle.walk.proofs.is_goal.Reads as reads
 use Rattle.walk.proofs.is_goal.Lts as lts
-use Rattle.blocks.proofs.all_lie.Reads as all-lie-reads
+use Rattle.masks.proofs.all_lie.Reads as all-lie-reads
 
 all-lie-requires : tie.Need-all-lie-requires
 all-lie-requires c κs = search needs

@@ -1,0 +1,28 @@
+use Prim.Native.Nat.{_≤_, _^_}
+use lib.Pow.{pow-pos, pow-mono}
+use Rattle.blocks.specs.Blocks.{every}
+use Rattle.blocks.proofs.MaskLaws.{shift-one}
+use borrow.Author.Needs.{needs}
+use Rattle.cutting.proofs.every_position.Statement.{statement}
+use Rattle.cutting.proofs.every_position.Tie as tie
+use Rattle.cutting.proofs.every_position.Reads as reads
+use Rattle.cutting.proofs.every_position.Lts as lts
+
+shl-result : tie.Need-shl-result
+shl-result c = search needs
+
+sub-result : tie.Need-sub-result
+sub-result c = let s = c .args .size in rw (shift-one s 64 (search needs)) (pow-pos s)
+
+cast-result : tie.Need-cast-result
+cast-result c =
+    let s = c .args .size in
+    let l : 2 ^ s ≤ 2 ^ 32 = pow-mono {i = s} {j = 32} (search needs) in
+    rw (shift-one s 64 (search needs)) (search (l, needs))
+
+returns : tie.Need-returns
+unfolding every
+returns c = rw (shift-one (c .args .size) 64 (search needs))
+
+pub every-position-spec : {M : Type 1} → statement M
+every-position-spec = tie.close (tie.spec shl-result sub-result cast-result returns)
