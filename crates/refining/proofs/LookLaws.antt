@@ -24,7 +24,8 @@ use Rattle.run.specs.Run.{Look, hopeless, lookFrom, look}
 use Rattle.trace.specs.Hops.{Holds}
 use Rattle.walk.specs.declared.Found.{Found}
 use Rattle.walk.specs.declared.Found.the-variants as walk
-use Rattle.walk.specs.Walking.{Stands, Begins, seen, Known, walked}
+use Rattle.standing.specs.Standing.{Stands}
+use Rattle.walk.specs.Walking.{Begins, seen, Known, walked}
 use Rattle.refining.specs.Listing.{pathSteps}
 use Rattle.refining.specs.Refining.{Given, Made, lookOf, toldBy, KnownSeen}
 

@@ -22,7 +22,8 @@ use Rattle.walk.specs.declared.Found.{Found}
 use Rattle.walk.specs.declared.Found.the-variants.{Plan, Flaw}
 use Rattle.walk.specs.declared.Turn.{Turn}
 use Rattle.walk.specs.declared.Turn.the-variants.{Went, Ended, Flawed}
-use Rattle.walk.specs.Walking.{takesBy, landsBy, goalAtEnd, takenBy, cutBy, backRow, needRow, Followed, outcome, endBy, turnOn, turnBy, standsAfter, followBy, Known}
+use Rattle.standing.specs.Standing.{takesBy, landsBy, goalAtEnd, takenBy, cutBy, backRow, needRow}
+use Rattle.walk.specs.Walking.{Followed, outcome, endBy, turnOn, turnBy, standsAfter, followBy, Known}
 
 module _ (columns steps count : ℕ) (needs lands goals costs sets dist : List ℕ) where
   abbrev turn : Block → List ℕ → Turn

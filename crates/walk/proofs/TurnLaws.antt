@@ -11,7 +11,8 @@ use Rattle.trace.specs.declared.Next.the-variants.{To, Nothing}
 use Rattle.trace.specs.Hops.{fitsBy, nextBy, hopOf}
 use Rattle.trace.proofs.HopLaws.{next-below}
 use Rattle.walk.specs.declared.Turn.the-variants.{Went, Ended, Flawed}
-use Rattle.walk.specs.Walking.{takesBy, landsBy, needRow, backRow, cutBy, turnOn, turnBy}
+use Rattle.standing.specs.Standing.{takesBy, landsBy, needRow, backRow, cutBy}
+use Rattle.walk.specs.Walking.{turnOn, turnBy}
 
 module _ (columns steps count : ℕ) (needs lands costs sets dist : List ℕ) (a : Block) (here : List ℕ) (r : Next)
     (is : hopOf r ≡ nextBy steps count (fitsBy columns needs lands costs sets dist (a .0))) where

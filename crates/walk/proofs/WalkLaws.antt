@@ -34,8 +34,9 @@ use Rattle.walk.specs.declared.Found.{Found}
 use Rattle.walk.specs.declared.Found.the-variants.{Plan}
 use Rattle.walk.specs.declared.Turn.{Turn}
 use Rattle.walk.specs.declared.Turn.the-variants.{Went, Ended, Flawed}
-use Rattle.walk.specs.Walking.{Stands, takesBy, landsBy, goalAtEnd, takenBy, needRow, backRow, cutBy, Followed, outcome, endBy, turnOn, turnBy, followBy, stepIn, seen, Known, Begins, walked}
-use Rattle.walk.proofs.StandLaws.{takes-is, goal-is, lands-is, stands-taken, goal-cut, need-cut, back-cut}
+use Rattle.standing.specs.Standing.{Stands, takesBy, landsBy, goalAtEnd, takenBy, needRow, backRow, cutBy}
+use Rattle.walk.specs.Walking.{Followed, outcome, endBy, turnOn, turnBy, followBy, stepIn, seen, Known, Begins, walked}
+use Rattle.standing.proofs.StandLaws.{takes-is, goal-is, lands-is, stands-taken, goal-cut, need-cut, back-cut}
 use Rattle.walk.proofs.FollowLaws.{follow-none, follow-ended, follow-flawed, follow-went}
 
 -- one step more on the path

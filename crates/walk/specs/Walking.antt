@@ -1,87 +1,27 @@
--- The walk of the real states along the trace as code does it, on masks. A state stands as a row of sets with one position each, and a wanted
--- set that allows every position is coded as 0.
-use mathlib.Core.Bool.{Bool, true, _&&_, not, cond}
+-- The walk of the real states along the trace as code does it, on masks.
+use mathlib.Core.Bool.{true, cond}
 use mathlib.Core.List.{List}
-use mathlib.Core.Option.{Option, none, some, Option·getD}
+use mathlib.Core.Option.{Option, none, some}
 use mathlib.Core.Path.{_≡_}
 use Prim.Native.Nat.{ℕ, zero, suc, _+_, _<_}
 use lib.ListN.{getD, set}
-use Rattle.task.specs.declared.Column.{Column}
 use Rattle.task.specs.declared.Step.{Step}
 use Rattle.task.specs.declared.Block.{Block}
-use Rattle.task.specs.Loops.{all, first, when, tab, over}
+use Rattle.task.specs.Loops.{tab}
 use Rattle.task.specs.Sizes.{limits}
-use Rattle.task.specs.Task.{Task, State, Tenths, Accepted, column, step, at, columnCount, isState}
+use Rattle.task.specs.Task.{Task, State, Tenths, Accepted, step, isState}
 use Rattle.blocks.specs.declared.Cut.{Cut}
-use Rattle.blocks.specs.Blocks.{PositionSet, only, common, isEmpty, blockAt, inBlock, accepted, blocksOf}
-use Rattle.blocks.specs.Flat.{past, rowOf, blocksIn}
-use Rattle.blocks.specs.Masks.{allLie}
+use Rattle.blocks.specs.Blocks.{PositionSet, blockAt, inBlock, accepted, blocksOf}
+use Rattle.blocks.specs.Flat.{blocksIn}
 use Rattle.distances.specs.Distances.{Distance, Hop, farOf, distances}
 use Rattle.settling.specs.Coded.{Tables}
 use Rattle.run.specs.Run.{Look, planned, flaw, trace, walk, lookWalk}
 use Rattle.trace.specs.Hops.{fitsBy, nextBy, Holds}
+use Rattle.standing.specs.Standing.{Stands, takesBy, goalAtEnd, landsBy, takenBy, needRow, backRow, cutBy}
 use Rattle.walk.specs.declared.Found.{Found}
 use Rattle.walk.specs.declared.Found.the-variants.{Plan, Flaw}
 use Rattle.walk.specs.declared.Turn.{Turn}
 use Rattle.walk.specs.declared.Turn.the-variants.{Went, Ended, Flawed}
-
--- a row of sets with one position each holds the positions of a state
-unfoldable pub Stands : Task → State → List PositionSet → Type 0
-Stands t x here = (j : Column) → j .0 < columnCount t → getD here (j .0) 0 ≡ only (at x j)
-
--- ---- one column
-
--- where a column stands after a step: where the step lands, or else where it stood
-unfoldable pub landed : PositionSet → PositionSet → PositionSet
-landed land here = cond (isEmpty land) here land
-
--- the next block's set taken back over a step, 0 for every position
-unfoldable pub backSet : PositionSet → PositionSet → PositionSet → PositionSet
-backSet need land next = cond (isEmpty need) (cond (isEmpty land) next 0) need
-
--- the present position isn't wanted
-unfoldable pub isOff : PositionSet → PositionSet → Bool
-isOff wanted here = not (isEmpty wanted) && isEmpty (common here wanted)
-
--- ---- a row
-
-unfoldable pub takesBy : ℕ → List ℕ → List ℕ → ℕ → Bool
-takesBy columns needs here s = allLie columns (rowOf s) 0 needs here
-
-unfoldable pub goalAtEnd : ℕ → List ℕ → List ℕ → Bool
-goalAtEnd columns goals here = allLie columns 0 0 goals here
-
-unfoldable pub landedAt : List ℕ → List ℕ → ℕ → ℕ → PositionSet
-landedAt lands here s j = landed (past lands (rowOf s) j) (getD here j 0)
-
-unfoldable pub landsBy : ℕ → List ℕ → List ℕ → List ℕ → ℕ → ℕ → Bool
-landsBy columns lands sets here s b = all columns (λ j. not (isEmpty (common (landedAt lands here s j) (past sets (rowOf b) j))))
-
-unfoldable pub takenBy : ℕ → List ℕ → List ℕ → ℕ → List ℕ
-takenBy columns lands here s = over (tab columns (landedAt lands here s)) here
-
--- the wanted sets of a need flaw, and of a divergence flaw; those of a goal flaw are the goals
-unfoldable pub needRow : List ℕ → ℕ → List PositionSet
-needRow needs s = tab (limits .columns) (past needs (rowOf s))
-
-unfoldable pub backAt : List ℕ → List ℕ → List ℕ → ℕ → ℕ → ℕ → PositionSet
-backAt needs lands sets s b j = backSet (past needs (rowOf s) j) (past lands (rowOf s) j) (past sets (rowOf b) j)
-
-unfoldable pub backRow : List ℕ → List ℕ → List ℕ → ℕ → ℕ → List PositionSet
-backRow needs lands sets s b = tab (limits .columns) (backAt needs lands sets s b)
-
--- the lowest column whose present position isn't wanted
-unfoldable pub offAt : List ℕ → List ℕ → ℕ → Option Column
-offAt wanted here j = when (isOff (getD wanted j 0) (getD here j 0)) (column j)
-
-unfoldable pub lowestOff : ℕ → List ℕ → List ℕ → Column
-lowestOff columns wanted here = Option·getD (first columns (offAt wanted here)) (column 0)
-
--- the cut of a flaw in block a
-unfoldable pub cutBy : ℕ → List ℕ → List ℕ → Block → List ℕ → Cut
-cutBy columns sets here a wanted =
-    let j = lowestOff columns wanted here in
-    record { block = a; column = j; wanted = common (past sets (rowOf (a .0)) (j .0)) (getD wanted (j .0) 0) }
 
 -- ---- the walk
 

@@ -1,4 +1,5 @@
-use Rattle.walk.specs.Walking.{goalAtEnd, endBy}
+use Rattle.standing.specs.Standing.{goalAtEnd}
+use Rattle.walk.specs.Walking.{endBy}
 use mathlib.Core.Bool.{true, false}
 use mathlib.Core.Path.{_≡_, refl, sym, _∙_}
 use borrow.Author.Needs.{needs}
@@ -6,8 +7,8 @@ use Rattle.walk.proofs.end.Statement.{statement}
 use Rattle.walk.proofs.end.Tie as tie
 use Rattle.walk.proofs.end.Reads as reads
 use Rattle.walk.proofs.end.Lts as lts
-use Rattle.walk.proofs.cut_for.Reads as cut-for-reads
-use Rattle.walk.proofs.is_goal.Reads as is-goal-reads
+use Rattle.standing.proofs.cut_for.Reads as cut-for-reads
+use Rattle.standing.proofs.is_goal.Reads as is-goal-reads
 
 is-goal-requires : tie.Need-is-goal-requires
 is-goal-requires c κs = search needs

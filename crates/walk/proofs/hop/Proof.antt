@@ -10,11 +10,11 @@ use Rattle.walk.proofs.hop.Tie as tie
 use Rattle.walk.proofs.hop.Reads as reads
 use Rattle.walk.proofs.hop.Lts as lts
 use Rattle.trace.proofs.next_hop.Reads as next-hop-reads
-use Rattle.walk.proofs.back_cut.Reads as back-cut-reads
-use Rattle.walk.proofs.can_take.Reads as can-take-reads
-use Rattle.walk.proofs.lands_in.Reads as lands-in-reads
-use Rattle.walk.proofs.need_cut.Reads as need-cut-reads
-use Rattle.walk.proofs.take.Reads as take-reads
+use Rattle.standing.proofs.back_cut.Reads as back-cut-reads
+use Rattle.standing.proofs.can_take.Reads as can-take-reads
+use Rattle.standing.proofs.lands_in.Reads as lands-in-reads
+use Rattle.standing.proofs.need_cut.Reads as need-cut-reads
+use Rattle.standing.proofs.take.Reads as take-reads
 
 next-hop-requires : tie.Need-next-hop-requires
 next-hop-requires c κs = search needs

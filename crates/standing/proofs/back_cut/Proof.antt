@@ -1,0 +1,19 @@
+use borrow.Author.Needs.{needs}
+use Rattle.standing.proofs.back_cut.Statement.{statement}
+use Rattle.standing.proofs.back_cut.Tie as tie
+use Rattle.standing.proofs.back_cut.Reads as reads
+use Rattle.standing.proofs.back_cut.Lts as lts
+use Rattle.standing.proofs.cut_for.Reads as cut-for-reads
+use Rattle.standing.proofs.fill_back_wanted.Reads as fill-back-wanted-reads
+
+fill-back-wanted-requires : tie.Need-fill-back-wanted-requires
+fill-back-wanted-requires c κs = search needs
+
+cut-for-requires : tie.Need-cut-for-requires
+cut-for-requires c κs = search needs
+
+returns : tie.Need-returns
+returns c = rw (c .before .before .fill-back-wanted .ensures) at (c .cut-for .ensures)
+
+pub back-cut-spec : {M : Type 1} → statement M
+back-cut-spec = tie.close (tie.spec fill-back-wanted-requires cut-for-requires returns)

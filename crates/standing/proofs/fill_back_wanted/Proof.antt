@@ -1,0 +1,119 @@
+use Rattle.standing.specs.Standing.{backSet, backAt, backRow}
+use Rattle.blocks.proofs.FlatLaws.{over-all, over-set}
+use Rattle.blocks.specs.Flat.{past}
+use Rattle.task.proofs.LoopLaws.{over-none}
+use Rattle.task.specs.Loops.{tab, over}
+use lib.ListN.{length, length-set}
+use native.Mathlib.Omega.{arith}
+use Prim.Native.Nat.{_-_, _≤_}
+use mathlib.Core.Path.{_≡_, sym, _∙_}
+use borrow.Author.Needs.{needs}
+use Rattle.standing.proofs.fill_back_wanted.Statement.{statement}
+use Rattle.standing.proofs.fill_back_wanted.Tie as tie
+use Rattle.standing.proofs.fill_back_wanted.Reads as reads
+use Rattle.standing.proofs.fill_back_wanted.Lts as lts
+use Rattle.standing.proofs.back_set.Reads as back-set-reads
+
+abbrev Inv-loop : tie.InvT-loop
+Inv-loop needs lands sets wanted₀ rs rb j₀ wanted j = (j ≤ 16) × (length wanted ≡ 16) × (wanted ≡ over (tab j (λ i. backSet (past needs rs i) (past lands rs i) (past sets rb i))) wanted₀)
+
+abbrev μ-loop : tie.MeasureT-loop
+μ-loop needs lands sets wanted₀ rs rb j₀ wanted j = 16 - j
+
+cast-rs : tie.Need-cast-rs Inv-loop μ-loop
+cast-rs c = search needs
+
+mul-rs : tie.Need-mul-rs Inv-loop μ-loop
+mul-rs c = search needs
+
+cast-rb : tie.Need-cast-rb Inv-loop μ-loop
+cast-rb c = search needs
+
+mul-rb : tie.Need-mul-rb Inv-loop μ-loop
+mul-rb c = search needs
+
+loop-holds : tie.Need-loop-holds Inv-loop μ-loop
+loop-holds c = (omega arith, search needs, sym (over-none _ _))
+
+add-back-set : tie.Need-add-back-set Inv-loop μ-loop
+add-back-set c = search needs
+
+mul-back-set : tie.Need-mul-back-set Inv-loop μ-loop
+mul-back-set c = search needs
+
+element-copy-out-back-set : tie.Need-element-copy-out-back-set Inv-loop μ-loop
+element-copy-out-back-set c = search needs
+
+add-back-set-2 : tie.Need-add-back-set-2 Inv-loop μ-loop
+add-back-set-2 c = search needs
+
+mul-back-set-2 : tie.Need-mul-back-set-2 Inv-loop μ-loop
+mul-back-set-2 c = search needs
+
+element-copy-out-back-set-2 : tie.Need-element-copy-out-back-set-2 Inv-loop μ-loop
+element-copy-out-back-set-2 c = search needs
+
+add-back-set-3 : tie.Need-add-back-set-3 Inv-loop μ-loop
+add-back-set-3 c = search needs
+
+mul-back-set-3 : tie.Need-mul-back-set-3 Inv-loop μ-loop
+mul-back-set-3 c = search needs
+
+element-copy-out-back-set-3 : tie.Need-element-copy-out-back-set-3 Inv-loop μ-loop
+element-copy-out-back-set-3 c = search needs
+
+back-set-requires : tie.Need-back-set-requires Inv-loop μ-loop
+back-set-requires c κs = search needs
+
+mul-wanted : tie.Need-mul-wanted Inv-loop μ-loop
+mul-wanted c = search needs
+
+element-write-wanted : tie.Need-element-write-wanted Inv-loop μ-loop
+element-write-wanted c = search needs
+
+add-j : tie.Need-add-j Inv-loop μ-loop
+add-j c = search needs
+
+loop-less : tie.Need-loop-less Inv-loop μ-loop
+loop-less c = search needs
+
+loop-again : tie.Need-loop-again Inv-loop μ-loop
+unfolding past
+loop-again c =
+    let l = c .before .before .before .before .before .loop in
+    (omega arith, simp length-set (l .inv .1), over-set _ (l .j) _ (l .wanted) _ (l .inv .2) (omega arith) (c .back-set .ensures))
+
+returns : tie.Need-returns Inv-loop μ-loop
+unfolding backRow backAt past
+returns c =
+    let l = c .before .loop in
+    let e : l .j ≡ 16 = omega arith in
+    (rw e at (l .inv .2)) ∙ over-all 16 _ _ (omega arith)
+
+pub fill-back-wanted-spec : {M : Type 1} → statement M
+fill-back-wanted-spec =
+    tie.close
+    (tie.spec
+    Inv-loop
+    μ-loop
+    cast-rs
+    mul-rs
+    cast-rb
+    mul-rb
+    loop-holds
+    add-back-set
+    mul-back-set
+    element-copy-out-back-set
+    add-back-set-2
+    mul-back-set-2
+    element-copy-out-back-set-2
+    add-back-set-3
+    mul-back-set-3
+    element-copy-out-back-set-3
+    back-set-requires
+    mul-wanted
+    element-write-wanted
+    add-j
+    loop-less
+    loop-again
+    returns)
