@@ -253,6 +253,8 @@ unfolding answered list refusedOf taskOf told
 examples = refl
 
 -- ---- N, the number of states that the columns allow: 6 for the small re-thread
-pub state-counts : map task.stateCount (rethread ∷ withoutTape ∷ free ∷ one none ∷ chain ∷ stepFirst ∷ blockNext ∷ within ∷ fewerSteps ∷ []) ≡ 6 ∷ 6 ∷ 2 ∷ 1 ∷ 8 ∷ 8 ∷ 6 ∷ 9 ∷ 3 ∷ []
+pub state-counts :
+    map task.stateCount (rethread ∷ withoutTape ∷ free ∷ one none ∷ chain ∷ stepFirst ∷ blockNext ∷ within ∷ fewerSteps ∷ [])
+    ≡ 6 ∷ 6 ∷ 2 ∷ 1 ∷ 8 ∷ 8 ∷ 6 ∷ 9 ∷ 3 ∷ []
 unfolding task.stateCount task.columnCount task.sizeOf loops.prod
 state-counts = refl

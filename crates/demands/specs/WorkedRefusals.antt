@@ -137,12 +137,13 @@ list =
     ∷ []
 
 pub worked : map answered list ≡ list
-unfolding answered told list reading.number reading.reading writing.number writing.writing rebuilding.number rebuilding.rebuilding cutWriting.number cutWriting.writingCuts
-    tables.columnIn tables.marksIn tables.ofTables tables.readChecks tables.writeChecks
-    cut.tailOf cut.atFront cut.cutSheetChecks cut.rebuildChecks cut.cutLent cut.ofCuts cut.givenChecks cut.writeCutsChecks
-    part.cutNamed part.cutsNamed part.cutHeader part.cutPart part.cutBits part.cutFields part.cutEntries part.cutOn part.cutPartWith part.ofCutPart part.cutChecks
-    sheet.sheetChecks sheet.entries sheet.fieldsPart sheet.headerPart sheet.columnPart sheet.marksPart sheet.stepPart sheet.fillPart sheet.modelBits sheet.columnOn sheet.costOn sheet.marksOn
-    sheet.sheetWith sheet.ofSheet judging.outside judging.checksOf judging._then_ judging.refusal judging.each packing.bytesFor bits.bitAt bits.fieldAt
-    columnSaid changeSaid stepSaid taskIn taskOn marked loops.all loops.tab task.columnCount task.sizeOf task.eachColumn task.perColumn
-    blocks.every blocks.common blocks.without blocks.isEmpty blocks.setAt blocks.blockAt blocks.withSet blocks.cutBlock blocks.cutAll blocks.whole blocks.blocksOf blocks.cutOk
+unfolding answered told list reading.number reading.reading writing.number writing.writing rebuilding.number rebuilding.rebuilding cutWriting.number
+    cutWriting.writingCuts tables.columnIn tables.marksIn tables.ofTables tables.readChecks tables.writeChecks cut.tailOf cut.atFront
+    cut.cutSheetChecks cut.rebuildChecks cut.cutLent cut.ofCuts cut.givenChecks cut.writeCutsChecks part.cutNamed part.cutsNamed part.cutHeader
+    part.cutPart part.cutBits part.cutFields part.cutEntries part.cutOn part.cutPartWith part.ofCutPart part.cutChecks sheet.sheetChecks sheet.entries
+    sheet.fieldsPart sheet.headerPart sheet.columnPart sheet.marksPart sheet.stepPart sheet.fillPart sheet.modelBits sheet.columnOn sheet.costOn
+    sheet.marksOn sheet.sheetWith sheet.ofSheet judging.outside judging.checksOf judging._then_ judging.refusal judging.each packing.bytesFor
+    bits.bitAt bits.fieldAt columnSaid changeSaid stepSaid taskIn taskOn marked loops.all loops.tab task.columnCount task.sizeOf task.eachColumn
+    task.perColumn blocks.every blocks.common blocks.without blocks.isEmpty blocks.setAt blocks.blockAt blocks.withSet blocks.cutBlock blocks.cutAll
+    blocks.whole blocks.blocksOf blocks.cutOk
 worked = refl
