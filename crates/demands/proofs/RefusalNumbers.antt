@@ -38,10 +38,10 @@ runNumbers = 0 ∷ 1 ∷ 2 ∷ 3 ∷ 4 ∷ 5 ∷ 6 ∷ 7 ∷ 8 ∷ []
 
 -- ---- the lists of checks
 pub read-gives : (s frame costs marks : List ℕ) → has sheetNumbers (refusal (readChecks s frame costs marks)) ≡ true
-read-gives s frame costs marks = gives (has sheetNumbers) sheet.numbers refl (readChecks s frame costs marks) (sheet.read-numbers s frame costs marks)
+read-gives s frame costs marks = gives (has sheetNumbers) sheet.lentNumbers refl (readChecks s frame costs marks) (sheet.read-numbers s frame costs marks)
 
 pub write-gives : (q : Source) (sheet₀ : List ℕ) → has sheetNumbers (refusal (writeChecks q sheet₀)) ≡ true
-write-gives q sheet₀ = gives (has sheetNumbers) sheet.numbers refl (writeChecks q sheet₀) (sheet.write-numbers q sheet₀)
+write-gives q sheet₀ = gives (has sheetNumbers) sheet.lentNumbers refl (writeChecks q sheet₀) (sheet.write-numbers q sheet₀)
 
 pub rebuild-gives : (model s cuts : List ℕ) → has rebuildNumbers (refusal (rebuildChecks model s cuts)) ≡ true
 rebuild-gives model s cuts = gives (has rebuildNumbers) cut.rebuildNumbers refl (rebuildChecks model s cuts) (cut.rebuild-numbers model s cuts)

@@ -20,9 +20,12 @@ use Rattle.reading.specs.Reading.{Outcome, outcome, number, reading}
 use Rattle.writing.specs.declared.write.SheetWritten.the-variants.{Sheet, Refused as NotWritten}
 use Rattle.writing.specs.Writing.{Outcome as Written, outcome as written, number as writeNumber, writing}
 
--- which numbers whoever reads or writes a sheet can get
+-- which numbers a sheet can get, and whoever reads or writes one
 abbrev pub numbers : List ℕ
-numbers = 1 ∷ 2 ∷ 3 ∷ 4 ∷ 5 ∷ 6 ∷ 8 ∷ []
+numbers = 1 ∷ 2 ∷ 3 ∷ 4 ∷ 5 ∷ 6 ∷ []
+
+abbrev pub lentNumbers : List ℕ
+lentNumbers = 1 ∷ 2 ∷ 3 ∷ 4 ∷ 5 ∷ 6 ∷ 8 ∷ []
 
 pub model-numbers : (p : Source) → Numbers (has numbers) (checksOf (entries p))
 unfolding entries fieldsPart headerPart columnPart stepPart marksPart fillPart checksOf
@@ -50,22 +53,22 @@ module _ (s : List ℕ) where
 
 -- ---- the reader
 module _ (s frame costs marks : List ℕ) where
-  pub read-numbers : Numbers (has numbers) (readChecks s frame costs marks)
+  pub read-numbers : Numbers (has lentNumbers) (readChecks s frame costs marks)
   unfolding readChecks
-  read-numbers = numbers-append (has numbers) numbers refl (sheetChecks s) _ (sheet-numbers s) refl
+  read-numbers = numbers-append (has lentNumbers) numbers refl (sheetChecks s) _ (sheet-numbers s) refl
 
   pub reader : Judged (λ (o : Outcome). number (o .answer)) (λ n. outcome (Refused n) frame costs marks) (readChecks s frame costs marks)
       (outcome (Held (columnsOf s) (stepsOf s)) (over (frameOf (ofSheet s)) frame) (over (costsOf (ofSheet s)) costs) (over (marksOf (ofSheet s)) marks)) (reading s frame costs marks)
   unfolding reading number
-  reader = judges _ _ numbers refl (readChecks s frame costs marks) read-numbers _ refl refl
+  reader = judges _ _ lentNumbers refl (readChecks s frame costs marks) read-numbers _ refl refl
 
 -- ---- the writer
 module _ (p : Source) (sheet : List ℕ) where
-  pub write-numbers : Numbers (has numbers) (writeChecks p sheet)
+  pub write-numbers : Numbers (has lentNumbers) (writeChecks p sheet)
   unfolding writeChecks
-  write-numbers = numbers-append (has numbers) numbers refl (checksOf (entries p)) _ (model-numbers p) refl
+  write-numbers = numbers-append (has lentNumbers) numbers refl (checksOf (entries p)) _ (model-numbers p) refl
 
   pub writer : Judged (λ (o : Written). writeNumber (o .answer)) (λ n. written (NotWritten n) sheet) (writeChecks p sheet)
       (written (Sheet (modelBytes (columnsIn p) (stepsIn p))) (over (sheetOf (entries p)) sheet)) (writing p sheet)
   unfolding writing writeNumber
-  writer = judges _ _ numbers refl (writeChecks p sheet) write-numbers _ refl refl
+  writer = judges _ _ lentNumbers refl (writeChecks p sheet) write-numbers _ refl refl
