@@ -34,7 +34,7 @@ use Rattle.demands.proofs.Refusals.{entry-made, entry-refused}
 use Rattle.run_laws.proofs.Flaws.{OnePerFlaw, one-per-flaw}
 use Rattle.run_laws.proofs.Answers.{none-falls}
 
-costs-few : (t : Task) → ((s : Step) → costOf t s ≤ 65535) → (ss : List Step) → costs t ss ≤ length ss * 65535
+pub costs-few : (t : Task) → ((s : Step) → costOf t s ≤ 65535) → (ss : List Step) → costs t ss ≤ length ss * 65535
 unfolding costs
 costs-few t h [] = omega arith
 costs-few t h (s ∷ ss) = omega (arith, h s, costs-few t h ss)

@@ -8,3 +8,4 @@ pub mod RoundTrips
 pub mod Cuts
 pub mod Rows
 pub mod Untouched
+pub mod RunBytes
