@@ -26,11 +26,11 @@ use Rattle.counts.proofs.CountLaws as count
 use Rattle.lines.specs.Lines.{decimal, labelled, planText, noPlanText, openText, refusedText, stepsText, blocksText, space, lineEnd, firstLine, rowLine, rowLines, madeLines, ranLines, printed, Put}
 use Rattle.lines.proofs.LineLaws.{join, same-long, decimal-short}
 
-label-short : (text : List ℕ) (n : ℕ) → length (labelled text n) ≤ length text + 20
+pub label-short : (text : List ℕ) (n : ℕ) → length (labelled text n) ≤ length text + 20
 unfolding labelled
 label-short text n = omega (arith, length-append text (decimal n), decimal-short n)
 
-first-short : (a : Answer) → length (firstLine a) ≤ 128
+pub first-short : (a : Answer) → length (firstLine a) ≤ 128
 unfolding firstLine
 first-short (Plan c n b) =
     omega (arith, length-append (labelled planText c) (labelled stepsText n ++ (labelled blocksText b ++ lineEnd)), length-append (labelled stepsText n) (labelled blocksText b ++ lineEnd), length-append (labelled blocksText b) lineEnd, label-short planText c, label-short stepsText n, label-short blocksText b)
