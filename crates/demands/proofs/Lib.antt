@@ -9,3 +9,5 @@ pub mod Cuts
 pub mod Rows
 pub mod Untouched
 pub mod RunBytes
+pub mod Printed
+pub mod FirstBytes
