@@ -16,6 +16,7 @@ use lib.ListN.{length, getD, take, drop}
 use lib.Seq.{take-append-seam, drop-append-seam}
 use borrow.Author.Tests.{eqb-true}
 use Rattle.task.specs.Loops.{first, over}
+use Rattle.task.specs.Sizes.{limits}
 use Rattle.task.specs.Task.{Task, Accepted}
 use Rattle.task.proofs.LoopLaws.{true-or-false}
 use Rattle.fields.specs.Bits.{fieldAt}
@@ -164,7 +165,7 @@ module _ (file out : List ℕ) (room : 65536 ≤ length out) {r : ℕ} {out′ :
     abbrev t : Task
     t = taskOn (sheetIn file)
 
-    pub put-printed-accepted : Accepted t × (1 ≤ roomIn file) × (roomIn file ≤ 256)
+    pub put-printed-accepted : Accepted t × (1 ≤ roomIn file) × (roomIn file ≤ limits .blocks)
     unfolding fileChecks
     put-printed-accepted =
         let fine = sym (put-printed-judged .told) ∙ kept in

@@ -2,7 +2,7 @@
 -- For whoever knows only the contract of `elhavir_run`: what a C program takes from the bytes of a run's cuts is the block, the column and the wanted set of
 -- each cut, and from those of a plan's rows the step, the tenths and the tenths left of each. No value is too large for its four bytes. (Of the estimates:
 -- `entry-value` in Answers.)
-use Prim.Native.Nat.{ℕ, zero, suc, _+_, _*_, _/_, _%_, _^_, _≤_, _<_}
+use Prim.Native.Nat.{ℕ, zero, suc, _+_, _-_, _*_, _/_, _%_, _^_, _≤_, _<_}
 use native.Mathlib.Nat.{not-suc-le-zero, le-of-suc-le-suc, add-zero}
 use native.Mathlib.Omega.{arith}
 use native.Mathlib.Decide.{ℕ-discrete}
@@ -17,6 +17,7 @@ use borrow.Author.Tests.{ne-eqb}
 use Rattle.task.specs.declared.Position.{Position}
 use Rattle.task.specs.declared.Step.{Step}
 use Rattle.task.specs.Loops.{over}
+use Rattle.task.specs.Sizes.{limits}
 use Rattle.task.specs.Task.{Task, State, Accepted, position, stepCount, costOf, start, taken, reaches, costs, IsPlan}
 use Rattle.task.proofs.LoopLaws.{and-left, and-right}
 use Rattle.task.proofs.TaskLaws.{first-step}
@@ -86,11 +87,11 @@ set-fits a h = split (ℕ-discrete (a / 2 ^ 32) 0)
 
 -- block, column and wanted set of a cut
 abbrev pub CutSized : Cut → Type 0
-CutSized c = (c .block .0 < 256) × (c .column .0 < 16) × (c .wanted < 2 ^ 32)
+CutSized c = (c .block .0 < limits .blocks) × (c .column .0 < limits .columns) × (c .wanted < 2 ^ limits .positions)
 
 module _ (t : Task) (v : Accepted t) where
   -- a cut that is accepted when its turn comes
-  cut-sized : (bs : Blocks) → Parts t bs → (before after : List Cut) (c : Cut) → cutsOk t bs (before ++ (c ∷ after)) ≡ true → length bs + length before ≤ 256
+  cut-sized : (bs : Blocks) → Parts t bs → (before after : List Cut) (c : Cut) → cutsOk t bs (before ++ (c ∷ after)) ≡ true → length bs + length before ≤ limits .blocks
       → CutSized c
   unfolding cutsOk oldSet oldBlock
   cut-sized bs g [] after c h n =
@@ -108,7 +109,7 @@ module _ (t : Task) (v : Accepted t) where
 
 -- step, tenths and tenths left
 abbrev pub RowSized : Row → Type 0
-RowSized r = (r .step .0 < 128) × (r .tenths < 65536) × (r .left ≤ 16711425)
+RowSized r = (r .step .0 < limits .steps) × (r .tenths < 65536) × (r .left ≤ (limits .blocks - 1) * 65535)
 
 module _ (t : Task) where
   -- the row of a plan's step: what it costs, and what those after it cost
@@ -124,7 +125,7 @@ module _ (t : Task) where
   step-known x [] after s h = first-step t x s after h .known
   step-known x (y ∷ before) after s h = step-known (taken t y x) before after s (first-step t x y (before ++ (s ∷ after)) h .rest)
 
-  row-sized : Accepted t → (before after : List Step) (s : Step) → IsPlan t (before ++ (s ∷ after)) → length (before ++ (s ∷ after)) < 256
+  row-sized : Accepted t → (before after : List Step) (s : Step) → IsPlan t (before ++ (s ∷ after)) → length (before ++ (s ∷ after)) < limits .blocks
       → RowSized (rowFor s after)
   unfolding IsPlan
   row-sized v before after s h n =
