@@ -6,6 +6,8 @@
 pub mod bits;
 pub mod blocks;
 pub mod entries;
+#[allow(dead_code)] // for library.rs alone
+pub mod library;
 pub mod question;
 pub mod run;
 pub mod search;
