@@ -8,6 +8,7 @@
 
 mod call;
 mod chance;
+mod counts;
 mod damage;
 mod every;
 mod examples;

@@ -1,20 +1,20 @@
-//! How often each answer was met. A comparison that never meets an answer says nothing about it.
+//! How often each answer of the two entries was met.
 
 use crate::call::Call;
+use crate::counts::{Met, Refusals, Row};
 use crate::judge::Outcome;
 use crate::planner::run::{Answer, Kind, Run};
 use crate::planner::task::Model;
 use crate::planner::{Part, NO_WAY};
-use std::collections::BTreeMap;
 
 #[derive(Default)]
 pub struct Tally {
-    refused: BTreeMap<(&'static str, Part, u32), u64>,
-    met: BTreeMap<&'static str, u64>,
+    refused: Refusals,
+    met: Met,
 }
 
 /// Every refusal that each entry can give, by the part that gives it.
-fn possible() -> Vec<(&'static str, Part, u32)> {
+fn possible() -> Vec<Row> {
     let mut list = Vec::new();
     for number in 1..=6 {
         list.push(("run", Part::Sheet, number));
@@ -50,74 +50,42 @@ impl Tally {
     pub fn count(&mut self, call: &Call, outcome: &Outcome) {
         let entry = if let Call::Run { .. } = call { "run" } else { "question" };
         match outcome {
-            Outcome::Refused(refusal) => *self.refused.entry((entry, refusal.part, refusal.number)).or_default() += 1,
+            Outcome::Refused(refusal) => self.refused.count(entry, refusal),
             Outcome::Ran(model, run) => {
                 let room = if let Call::Run { room, .. } = call { *room as usize } else { 0 };
                 self.count_run(model, run, room);
             }
             Outcome::Asked(_, values) => {
                 for value in values {
-                    self.meet(if *value == NO_WAY { "estimate: no way" } else { "estimate" });
+                    self.met.meet(if *value == NO_WAY { "estimate: no way" } else { "estimate" });
                 }
             }
         }
     }
 
     fn count_run(&mut self, model: &Model, run: &Run, room: usize) {
-        run.flaws.iter().for_each(|kind| self.meet(flaw_name(*kind)));
-        self.meet_if(run.cuts.len() >= 20, "20 cuts or more");
-        self.meet_if(model.columns() >= 9, "9 columns or more");
+        run.flaws.iter().for_each(|kind| self.met.meet(flaw_name(*kind)));
+        self.met.meet_if(run.cuts.len() >= 20, "20 cuts or more");
+        self.met.meet_if(model.columns() >= 9, "9 columns or more");
         match &run.answer {
             Answer::Plan { steps, .. } => {
-                self.meet("plan");
-                self.meet_if(steps.is_empty(), "plan of no steps");
-                self.meet_if(steps.iter().any(|step| model.steps[*step].cost == 0), "plan with a free step");
+                self.met.meet("plan");
+                self.met.meet_if(steps.is_empty(), "plan of no steps");
+                self.met.meet_if(steps.iter().any(|step| model.steps[*step].cost == 0), "plan with a free step");
             }
             Answer::NoPlan => {
-                self.meet("no plan");
-                self.meet_if(run.cuts.len() + 1 == room, "no plan in a full room");
+                self.met.meet("no plan");
+                self.met.meet_if(run.cuts.len() + 1 == room, "no plan in a full room");
             }
-            Answer::Open { .. } => self.meet("open"),
+            Answer::Open { .. } => self.met.meet("open"),
         }
-    }
-
-    fn meet_if(&mut self, met: bool, name: &'static str) {
-        if met {
-            self.meet(name);
-        }
-    }
-
-    fn meet(&mut self, name: &'static str) {
-        *self.met.entry(name).or_default() += 1;
     }
 
     /// Prints the tables and says whether each answer was met often enough.
     pub fn enough(&self, calls: u64) -> bool {
-        let floor = floor(calls, 400);
-        let mut good = true;
-        for entry in ["run", "question"] {
-            println!("refusals of {entry}");
-            for number in 1..=11 {
-                let of_number = possible().into_iter().filter(|row| row.0 == entry && row.2 == number);
-                let parts: Vec<_> =
-                    of_number.map(|row| (row.1, self.refused.get(&row).copied().unwrap_or(0))).collect();
-                if parts.is_empty() {
-                    continue;
-                }
-                good &= parts.iter().all(|(_, count)| *count >= floor);
-                let total: u64 = parts.iter().map(|(_, count)| count).sum();
-                let words: Vec<String> = parts.iter().map(|(part, count)| format!("{part:?} {count}")).collect();
-                println!("  {number}: {total}  ({})", words.join(", "));
-            }
-        }
-        let floor = self::floor(calls, 800);
+        let refused = self.refused.enough(&["run", "question"], &possible(), floor(calls, 400));
         println!("answers");
-        for name in OTHERS {
-            let count = self.met.get(name).copied().unwrap_or(0);
-            good &= count >= floor;
-            println!("  {name}: {count}");
-        }
-        good && self.refused.keys().all(|row| possible().contains(row))
+        self.met.enough(&OTHERS, floor(calls, 800)) && refused
     }
 }
 
