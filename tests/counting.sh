@@ -25,6 +25,18 @@ make_scratch() {
     trap 'rm -rf "$scratch"' EXIT
 }
 
+# make_program NAME SOURCE LIBRARY: makes $scratch a repository of its own, of the product's crates and a program that calls the library.
+make_program() {
+    local crate
+    mkdir -p "$scratch/crates/$1/src"
+    for crate in "$PWD"/crates/*; do
+        ln -s "$crate" "$scratch/crates/"
+    done
+    cp "$2" "$scratch/crates/$1/src/main.rt"
+    cp crates.txt "$scratch/"
+    sed -n "s/^$3: \(.*\)/$1: \1 $3 io libc/p" crates.txt >>"$scratch/crates.txt"
+}
+
 # Bytes as hexadecimal digits, and back.
 hex() {
     od -An -v -tx1 | tr -d ' \n'
