@@ -85,7 +85,7 @@ pub fn damaged_sheet(chance: &mut Chance, model: &Model) -> Vec<u8> {
 }
 
 /// Form, columns and steps would be hit too seldom among the marks, so that the kind is drawn first.
-fn spoil_a_field(chance: &mut Chance, fields: &mut [Field], kinds: &[What]) {
+pub fn spoil_a_field(chance: &mut Chance, fields: &mut [Field], kinds: &[What]) {
     let wanted = chance.below(6);
     let of_kind = |what: &What| match what {
         What::Form => wanted == 0,
@@ -104,7 +104,7 @@ fn spoil_a_field(chance: &mut Chance, fields: &mut [Field], kinds: &[What]) {
 }
 
 /// A count that is allowed but not that of the fields: what follows is read as something else.
-fn change_a_count(chance: &mut Chance, fields: &mut [Field]) {
+pub fn change_a_count(chance: &mut Chance, fields: &mut [Field]) {
     if chance.percent(50) {
         fields[1].value = chance.between(1, 16) as u64;
     } else {
@@ -262,7 +262,7 @@ pub fn damaged_cut_part(chance: &mut Chance, model: &Model, cuts: &[Cut]) -> Vec
 }
 
 /// Row 9: a block not yet made, a column that isn't there, a set that is empty, full, or reaches outside.
-fn spoil_a_cut(chance: &mut Chance, model: &Model, cuts: &[Cut], fields: &mut Vec<Field>) {
+pub fn spoil_a_cut(chance: &mut Chance, model: &Model, cuts: &[Cut], fields: &mut Vec<Field>) {
     if cuts.is_empty() {
         *fields = cut_fields(&[random_wrong_cut(chance, model)]);
         return;

@@ -96,7 +96,7 @@ fn cut_off() -> Vec<Call> {
 }
 
 /// The least value that a field's row refuses.
-fn bad(what: What) -> Option<u64> {
+pub fn bad(what: What) -> Option<u64> {
     match what {
         What::Form => Some(2),
         What::Columns => Some(17),

@@ -113,7 +113,7 @@ struct Faults {
     list: bool,
 }
 
-fn any_question(chance: &mut Chance) -> Call {
+pub fn any_question(chance: &mut Chance) -> Call {
     let faults = any_faults(chance);
     let good = !(faults.given || faults.inner || faults.differs || faults.cuts || faults.states || faults.list);
     let model = if good { any_model(chance) } else { small_model(chance) };
