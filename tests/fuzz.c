@@ -8,8 +8,9 @@
  * faults, after one, or in a heap block of exactly its size, which AddressSanitizer and valgrind watch.
  *
  * With -fsanitize=fuzzer this is a target for libFuzzer. With -DDRIVER it has a main of its own that goes through the
- * files it is given and then through changed ones by seed: driver SEED ROUNDS FILE..
- * FUZZ_HEAP=1 takes heap blocks always; FUZZ_ALONE=1 leaves the comparison out (valgrind is slow enough). */
+ * files it is given and then through changed ones by seed: driver [heap] [alone] SEED ROUNDS FILE..
+ * heap takes heap blocks always; alone leaves the comparison out (valgrind is slow enough). They are words and no variables
+ * of the environment, so that nobody's shell leaves the comparison out where it belongs. */
 
 #include <stddef.h>
 #include <stdint.h>
@@ -18,11 +19,7 @@
 #include <string.h>
 #include <sys/mman.h>
 
-#if defined __has_include
-#if __has_include("elhavir.h")
 #include "elhavir.h"
-#endif
-#endif
 
 /* Said again here, so that a header that says otherwise does not compile. */
 uint64_t elhavir_run(const uint8_t *sheet, size_t sheet_len, uint32_t room, uint8_t *cuts, size_t cuts_len,
@@ -47,11 +44,8 @@ struct slice {
 };
 
 static struct slice slices[SLICES];
-
-static int set(const char *name) {
-    const char *word = getenv(name);
-    return word != NULL && *word == '1';
-}
+static int heap, alone;
+static unsigned long calls; /* of an entry; an input too short to be a call makes none */
 
 static void guard(struct slice *slice) {
     uint8_t *whole = mmap(NULL, SIZE + 2 * PAGE, PROT_NONE, MAP_PRIVATE | MAP_ANONYMOUS, -1, 0);
@@ -116,8 +110,9 @@ static void put_list(struct slice *slice, size_t length) {
     for (size_t place = 0; place < length; place++) slice->bytes[place] = (uint8_t)(place * 37 + 11);
 }
 
-static void one_run(const uint8_t *data, size_t size, enum where where, int alone) {
+static void one_run(const uint8_t *data, size_t size, enum where where) {
     if (size < 7) return;
+    calls++;
     uint32_t room = (uint32_t)number(data + 1, 4);
     long needed = (long)((room - 1) & 255) * 12;
     long cuts = needed + (int8_t)data[5], rows = needed + (int8_t)data[6];
@@ -138,8 +133,9 @@ static void one_run(const uint8_t *data, size_t size, enum where where, int alon
     give_back(row_list, alone ? NULL : row_list->bytes, "rows");
 }
 
-static void one_question(const uint8_t *data, size_t size, enum where where, int alone) {
+static void one_question(const uint8_t *data, size_t size, enum where where) {
     if (size < 7) return;
+    calls++;
     struct slice *model = &slices[0], *cut_sheet = &slices[1], *states = &slices[2], *list = &slices[3];
     const uint8_t *rest = data + 7;
     size_t left = size - 7, model_len = number(data + 1, 2), states_len = number(data + 3, 2);
@@ -169,17 +165,12 @@ static void one_question(const uint8_t *data, size_t size, enum where where, int
 }
 
 int LLVMFuzzerTestOneInput(const uint8_t *data, size_t size) {
-    static int heap = -1, alone;
-    if (heap < 0) {
-        heap = set("FUZZ_HEAP");
-        alone = set("FUZZ_ALONE");
-    }
     if (size < 1 || size > LONGEST) return 0;
     enum where where = heap ? HEAP : (enum where)((data[0] >> 2 & 3) % 3);
     if (data[0] & 1)
-        one_question(data, size, where, alone);
+        one_question(data, size, where);
     else
-        one_run(data, size, where, alone);
+        one_run(data, size, where);
     return 0;
 }
 
@@ -237,25 +228,26 @@ static void change(void) {
 }
 
 int main(int count, char **words) {
-    if (count < 4) {
-        fprintf(stderr, "driver SEED ROUNDS FILE..\n");
+    for (; count > 1 && strcmp(words[1], "heap") == 0; words++, count--) heap = 1;
+    for (; count > 1 && strcmp(words[1], "alone") == 0; words++, count--) alone = 1;
+    unsigned long rounds = count < 4 ? 0 : strtoul(words[2], NULL, 10);
+    if (rounds == 0) {
+        fprintf(stderr, "driver [heap] [alone] SEED ROUNDS FILE.., with 1 round at least\n");
         return 2;
     }
     chance = strtoull(words[1], NULL, 10) * 2 + 1;
-    unsigned long rounds = strtoul(words[2], NULL, 10), calls = 0;
     int fatal[] = {SIGSEGV, SIGBUS, SIGABRT, SIGILL, SIGFPE};
     for (size_t place = 0; place < sizeof fatal / sizeof *fatal; place++) signal(fatal[place], fell);
     for (int file = 3; file < count; file++) {
         if (!read_file(words[file])) return 2;
         LLVMFuzzerTestOneInput(input, input_size);
-        calls++;
     }
-    for (; rounds > 0; rounds--, calls++) {
+    for (; rounds > 0; rounds--) {
         if (!read_file(words[3 + below((uint32_t)(count - 3))])) return 2;
         change();
         LLVMFuzzerTestOneInput(input, input_size);
     }
-    printf("fuzz: %lu calls, 0 differences\n", calls);
-    return 0;
+    printf("fuzz: %lu calls, %s\n", calls, alone ? "not compared" : "0 differences");
+    return calls == 0;
 }
 #endif
