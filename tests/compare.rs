@@ -50,6 +50,10 @@ fn main() {
     let seed = numbers.first().copied().unwrap_or(1);
     let calls = numbers.get(1).copied().unwrap_or(20_000);
     let first = numbers.get(2).copied();
+    if calls == 0 {
+        println!("compare: no calls by seed: nothing is compared");
+        std::process::exit(1);
+    }
     watch::begin(seed);
     let mut compare = Compare { product: Product::new(), tally: Tally::default(), calls: 0 };
     let result = match first {
@@ -64,6 +68,9 @@ fn main() {
     if first.is_none() && !compare.tally.enough(calls) {
         println!("compare: some answers were met too seldom to say anything");
         std::process::exit(1);
+    }
+    if first.is_none() && calls < tally::LEAST {
+        println!("left out: how often each answer is met ({calls} calls are too few to say, {} are enough)", tally::LEAST);
     }
     println!("compare: {} calls, 0 differences", compare.calls);
 }
@@ -100,11 +107,14 @@ impl Compare {
         Err(Difference { words, call: example.call.clone() })
     }
 
-    /// Where the system gives no such memory, nothing is said.
+    /// Left out where the system gives no such memory.
     fn vast(&mut self) {
         let sheet = [0x10, 0x80, 0x02, 0x00, 0x00];
         let beyond = 1 << 32;
-        let Some(memory) = lent::vast(beyond + 8192) else { return };
+        let Some(memory) = lent::vast(beyond + 8192) else {
+            println!("left out: lengths of 33 bits (no such memory)");
+            return;
+        };
         let answers = product::vast_calls(&sheet, memory, beyond);
         self.calls += 2;
         if answers != (6, planner::entries::number(1, 1, 0, 0)) {

@@ -25,11 +25,15 @@ fn main() {
     let folder = words.first().expect("corpus FOLDER [SEED] [COUNT]");
     let number = |place: usize, usual: u64| words.get(place).map_or(usual, |word| word.parse().expect("a number"));
     let (seed, count) = (number(1, 1), number(2, 500));
+    let mut written = 0;
     for place in 0..count {
         let call = making::any_call(&mut Chance::new(seed, place));
         let Some(bytes) = encoded(&call).filter(|bytes| bytes.len() <= LONGEST) else { continue };
         std::fs::write(format!("{folder}/{place:06}"), bytes).expect("the folder can be written to");
+        written += 1;
     }
+    println!("corpus: {written} inputs");
+    assert!(written > 0, "no inputs");
 }
 
 fn encoded(call: &Call) -> Option<Vec<u8>> {

@@ -26,6 +26,10 @@ fn main() {
     let path = words.first().expect("program PATH [SEED] [RUNS]");
     let number = |place: usize, usual: u64| words.get(place).map_or(usual, |word| word.parse().expect("a number"));
     let (seed, runs) = (number(1, 1), number(2, 400));
+    if runs == 0 {
+        println!("program: no runs by seed: nothing is compared");
+        std::process::exit(1);
+    }
     let mut inputs = fixed_inputs();
     inputs.extend((0..runs).map(|run| any_input(&mut Chance::new(seed, run))));
     for (number, input) in inputs.iter().enumerate() {

@@ -7,6 +7,9 @@ use crate::planner::run::{Answer, Kind, Run};
 use crate::planner::task::Model;
 use crate::planner::{Part, NO_WAY};
 
+/// Fewer calls by seed may miss an answer by chance, and say nothing of how often each is met.
+pub const LEAST: u64 = 5000;
+
 #[derive(Default)]
 pub struct Tally {
     refused: Refusals,
@@ -89,9 +92,9 @@ impl Tally {
     }
 }
 
-/// One in so many calls; a short comparison may miss an answer by chance, and is not held to it.
+/// One in so many calls; a comparison too short to say is not held to it.
 fn floor(calls: u64, share: u64) -> u64 {
-    if calls < 5000 {
+    if calls < LEAST {
         0
     } else {
         calls / share
