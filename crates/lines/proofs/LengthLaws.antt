@@ -1,4 +1,4 @@
--- How long the printed lines are: a first line has at most 128 bytes, a row's line too, and a plan has fewer than 256 rows. So 65,536 bytes hold them.
+-- How long the printed lines are: a first line has at most 128 bytes, a row's line too, and a plan has fewer rows than there can be blocks. So 65,536 bytes hold them.
 use Prim.Native.Nat.{ℕ, zero, suc, _+_, _*_, _/_, _≤_, _<_}
 use native.Mathlib.Omega.{arith}
 use native.Mathlib.Decide.{ℕ-discrete}
@@ -9,6 +9,7 @@ use lib.Dec.{ltb}
 use lib.ListN.{length, getD, drop, length-append}
 use borrow.Author.Tests.{eq-eqb, ne-eqb}
 use Rattle.task.specs.declared.Step.{Step}
+use Rattle.task.specs.Sizes.{limits}
 use Rattle.task.specs.Task.{Task, Accepted}
 use Rattle.fields.specs.Bits.{fieldAt}
 use Rattle.fields.specs.Judging.{outside, pick, refusal, each}
@@ -49,13 +50,13 @@ module _ (t : Task) where
   abbrev values : run.Answer → List ℕ
   values a = listed rowPlace (rowsOf t a)
 
-  few-rows : (a : run.Answer) → ((ss : List Step) → a ≡ plan ss → length ss < 256) → length (values a) / 3 ≤ 255
+  few-rows : (a : run.Answer) → ((ss : List Step) → a ≡ plan ss → length ss < limits .blocks) → length (values a) / 3 < limits .blocks
   unfolding rowsOf listed
   few-rows (plan ss) h = omega (arith, three t ss, h ss refl)
   few-rows noPlan h = omega arith
   few-rows («open» e) h = omega arith
 
-  made-short : (o : run.Outcome) → ((ss : List Step) → o .answer ≡ plan ss → length ss < 256) → length (madeLines t o) ≤ 65536
+  made-short : (o : run.Outcome) → ((ss : List Step) → o .answer ≡ plan ss → length ss < limits .blocks) → length (madeLines t o) ≤ 65536
   unfolding madeLines rowLines
   made-short o h =
       let a = told t (run.blockCount o) (o .answer) in
@@ -67,11 +68,11 @@ module _ (s : List ℕ) (room : ℕ) where
   abbrev N : ℕ
   N = refusal (sheetChecks s ++ (roomCheck room ∷ []))
 
-  pub ran-accepted : N ≡ 0 → Accepted (taskOn s) × (1 ≤ room) × (room ≤ 256)
+  pub ran-accepted : N ≡ 0 → Accepted (taskOn s) × (1 ≤ room) × (room ≤ limits .blocks)
   unfolding judgeSheet taskOn
   ran-accepted z =
       let p = neither (refusal (sheetChecks s)) _ (sym (refusal-append (sheetChecks s) _) ∙ z) in
-      let r = inside-means 1 256 room (passed 7 (outside 1 256 room) [] (λ y. omega arith) (p .1) .0) in
+      let r = inside-means 1 (limits .blocks) room (passed 7 (outside 1 (limits .blocks) room) [] (λ y. omega arith) (p .1) .0) in
       (accepted-task s (p .0), r .0, r .1)
 
   ran-short : length (ranLines s room) ≤ 65536
