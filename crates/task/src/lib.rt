@@ -28,6 +28,7 @@ pub struct Limits {
     pub steps: usize,
     pub blocks: usize,
     pub states: usize,
+    pub log: usize,
     pub no_way: u32,
 }
 
@@ -60,6 +61,9 @@ impl Model {
     // In one question.
     pub const STATES: usize = 64;
 
+    // Steps in one replay.
+    pub const LOG: usize = 255;
+
     pub const NO_WAY: u32 = 16777215;
 
     // The limits, for the definitions to be held to.
@@ -72,6 +76,7 @@ impl Model {
             steps: Model::STEPS,
             blocks: Model::BLOCKS,
             states: Model::STATES,
+            log: Model::LOG,
             no_way: Model::NO_WAY,
         }
     }

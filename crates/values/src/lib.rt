@@ -1,0 +1,1 @@
+// Values in lists of bytes, as the historian has them: four bytes each, most significant first.
