@@ -1,31 +1,27 @@
 -- What the code writes is the estimates.
-use Prim.Native.Nat.{ℕ, suc, _+_, _*_, _/_, _%_, _≤_, _<_}
+use Prim.Native.Nat.{ℕ, _+_, _*_, _/_, _%_, _≤_, _<_}
 use native.Mathlib.Omega.{arith}
 use native.Mathlib.Nat.{mul-add-mod-self-right, mod-eq-of-lt, mod-lt}
 use mathlib.Core.Path.{_≡_, refl, sym, ap, _∙_, subst}
 use mathlib.Core.Bool.{Bool, true, false, not, _||_}
 use mathlib.Core.List.{List}
-use mathlib.Core.Option.{Option, some, Option·map, Option·getD}
 use lib.Dec.{eqb, ltb}
 use lib.ListN.{length, getD, take}
 use lib.Seq.{take-append-seam}
 use borrow.Author.Tests.{ltb-true, ltb-false}
 use Rattle.task.specs.Loops.{all, tab, over}
 use Rattle.task.specs.Sizes.{limits}
-use Rattle.task.specs.declared.Block.{Block}
 use Rattle.task.specs.declared.Column.{Column}
-use Rattle.task.specs.Task.{Task, Accepted, column, position, block, columnCount, sizeOf, at, isState}
-use Rattle.task.proofs.LoopLaws.{all-at, tab-length, tab-at, tab-ext, over-at}
+use Rattle.task.specs.Task.{Task, State, Accepted, column, position, columnCount, sizeOf, at, isState}
+use Rattle.task.proofs.LoopLaws.{all-at, tab-length, tab-at, tab-ext}
 use Rattle.task.proofs.TaskLaws.{state-intro}
-use Rattle.blocks.specs.Blocks.{accepted, blocksOf, blockOf}
+use Rattle.blocks.specs.Blocks.{accepted, blocksOf}
 use Rattle.blocks.specs.Flat.{cutsIn, followed}
-use Rattle.blocks.proofs.CutLaws.{blocks-length}
-use Rattle.blocks.proofs.FollowLaws.{cuts-length, follow-block}
-use Rattle.distances.specs.Distances.{Distance, farOf, distances, stateFar, estimate}
-use Rattle.settling.specs.Coded.{codedAt, codedOver}
-use Rattle.settling.proofs.JoinLaws.{cost-said}
+use Rattle.blocks.proofs.FollowLaws.{cut-columns, followed-take}
+use Rattle.settling.specs.Coded.{codedOver}
+use Rattle.settling.proofs.CostLaws.{cost-found}
 use Rattle.asking.specs.Question.{placeIn, stateIn, wideState, costFound, statesIn, badStates, estimateAt, estimatesOf}
-use Rattle.asking.proofs.StateLaws.{followed-most, state-room}
+use Rattle.asking.proofs.StateLaws.{state-room}
 
 -- ---- states that are not bad
 module _ (t : Task) (bytes : List ℕ) (good : badStates t bytes ≡ false) where
@@ -70,9 +66,6 @@ module _ (t : Task) (bytes : List ℕ) (good : badStates t bytes ≡ false) wher
 
 -- ---- one estimate
 module _ (t : Task) (v : Accepted t) (l : List ℕ) (count : ℕ) (ok : accepted t (cutsIn count l) ≡ true) (few : count < 256) where
-  pub made : length (blocksOf t (cutsIn count l)) ≡ suc count
-  made = blocks-length t (cutsIn count l) ∙ ap suc (cuts-length count l)
-
   wide-front : (bytes : List ℕ) (k : ℕ) → take (columnCount t) (wideState (columnCount t) bytes k) ≡ stateIn (columnCount t) bytes k
   unfolding wideState over
   wide-front bytes k =
@@ -82,18 +75,13 @@ module _ (t : Task) (v : Accepted t) (l : List ℕ) (count : ℕ) (ok : accepted
 
   pub estimate-found : (old dist : List ℕ) → dist ≡ codedOver t (blocksOf t (cutsIn count l)) (count + 1) old → (bytes : List ℕ) → badStates t bytes ≡ false → (k : ℕ) → k < statesIn t bytes
       → costFound dist l count (wideState (columnCount t) bytes k) ≡ estimateAt t (cutsIn count l) bytes k
-  unfolding costFound estimateAt estimate stateFar codedOver
+  unfolding costFound estimateAt
   estimate-found old dist d bytes good k h =
-      let x = wideState (columnCount t) bytes k in
-      let y = stateIn (columnCount t) bytes k in
-      let f : ℕ = followed l x count in
-      let is : isState t (take (columnCount t) x) ≡ true = rw (wide-front bytes k) (state-good t bytes good k h) in
-      let b : blockOf t (blocksOf t (cutsIn count l)) y ≡ some (block f) = rw (wide-front bytes k) at (follow-block t v l count ok x is) in
-      let low : f < count + 1 = omega (arith, followed-most l x count) in
-      let g : getD dist f 0 ≡ codedAt (distances t (blocksOf t (cutsIn count l))) f = ap (λ (z : List ℕ). getD z f 0) d ∙ over-at (count + 1) _ old 0 f low in
-      ap (λ (z : ℕ). z / 65536) g
-      ∙ cost-said t (blocksOf t (cutsIn count l)) (v .tenths) (omega (arith, made)) (block f) (omega (arith, made))
-      ∙ ap (λ (o : Option Block). Option·getD (Option·map (λ (z : Distance). z .cost) (farOf (distances t (blocksOf t (cutsIn count l))) (Option·getD o (block 0)))) (limits .«no_way»)) (sym b)
+      let n = columnCount t in
+      let x = wideState n bytes k in
+      let f : followed l x count ≡ followed l (stateIn n bytes k) count =
+      sym (followed-take l x n count (cut-columns t v l count ok)) ∙ ap (λ (y : State). followed l y count) (wide-front bytes k) in
+      ap (λ (a : ℕ). getD dist a 0 / 65536) f ∙ cost-found t v l count ok few old dist d (stateIn n bytes k) (state-good t bytes good k h)
 
   -- and so all of them
   pub estimates-found : (old dist : List ℕ) → dist ≡ codedOver t (blocksOf t (cutsIn count l)) (count + 1) old → (bytes : List ℕ) → badStates t bytes ≡ false

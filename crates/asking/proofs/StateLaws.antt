@@ -1,17 +1,16 @@
 -- Laws for the code that judges states.
-use Prim.Native.Nat.{ℕ, zero, suc, _+_, _*_, _/_, _%_, _≤_, _<_}
+use Prim.Native.Nat.{ℕ, suc, _+_, _*_, _/_, _%_, _≤_, _<_}
 use native.Mathlib.Omega.{arith}
 use native.Mathlib.Nat.{mod-lt, suc-mul, mul-le-mul, le-refl, div-mul-le-self}
 use mathlib.Core.Path.{_≡_, refl, sym, ap, _∙_, subst}
-use mathlib.Core.Bool.{Bool, true, false, not, cond, _||_}
+use mathlib.Core.Bool.{Bool, true, false, not, _||_}
 use mathlib.Core.List.{List}
 use lib.Dec.{eqb, ltb}
 use lib.ListN.{length, getD}
 use borrow.Author.Tests.{lt-ltb, le-ltb, eq-eqb, ne-eqb}
 use Rattle.task.specs.Loops.{all}
-use Rattle.blocks.specs.Flat.{cutAt, goesOn, followed}
 use Rattle.task.specs.Sizes.{limits}
-use Rattle.task.specs.Task.{Task, State, position, column, columnCount, sizeOf}
+use Rattle.task.specs.Task.{Task, position, column, columnCount, sizeOf}
 use Rattle.task.proofs.LoopLaws.{all-ext, all-more, all-fails, over-at}
 use Rattle.fields.specs.Judging.{pick}
 use Rattle.asking.specs.Question.{badStates, statesIn, placeIn, stateIn, wideState}
@@ -67,16 +66,6 @@ module _ (sizes : List ℕ) (n : ℕ) (bytes : List ℕ) where
   -- what the code answers, for every task of these sizes
   pub answers : 1 ≤ n → {b : Bool} → badBy ≡ b → (t : Task) → columnCount t ≡ n → ((j : ℕ) → j < n → sizeOf t (column j) ≡ getD sizes j 0) → _≡_ {A = ℕ} (pick b 11 0) (pick (badStates t bytes) 11 0)
   answers pos e t hc hs = ap (λ x. pick x 11 0) (sym e ∙ bad-said pos t hc hs)
-
--- following n cuts leads to one of the blocks 0 to n
-pub followed-most : (l : List ℕ) (x : State) (n : ℕ) → followed l x n ≤ n
-unfolding followed
-followed-most l x zero = omega arith
-followed-most l x (suc i) = pick-most (goesOn (cutAt l i) x (followed l x i)) (followed-most l x i)
-  where
-    pick-most : (b : Bool) → followed l x i ≤ i → cond b (suc i) (followed l x i) ≤ suc i
-    pick-most true h = omega arith
-    pick-most false h = omega arith
 
 -- a state that is asked about lies within the bytes
 pub state-room : (n k len : ℕ) → k < len / n → k * n + n ≤ len

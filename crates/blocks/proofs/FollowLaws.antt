@@ -27,6 +27,16 @@ pub followed-none : (l : List ℕ) (x : State) → followed l x 0 ≡ 0
 unfolding followed
 followed-none l x = refl
 
+-- following n cuts leads to one of the blocks 0 to n
+pub followed-most : (l : List ℕ) (x : State) (n : ℕ) → followed l x n ≤ n
+unfolding followed
+followed-most l x zero = omega arith
+followed-most l x (suc i) = pick-most (goesOn (cutAt l i) x (followed l x i)) (followed-most l x i)
+  where
+    pick-most : (b : Bool) → followed l x i ≤ i → cond b (suc i) (followed l x i) ≤ suc i
+    pick-most true h = omega arith
+    pick-most false h = omega arith
+
 -- one cut more: the state goes on, or stays
 module _ (l : List ℕ) (x : State) (i a : ℕ) (g : Bool) (is : a ≡ followed l x i) (test : g ≡ goesOn (cutAt l i) x a) where
   pub followed-on : g ≡ true → followed l x (i + 1) ≡ i + 1

@@ -1,9 +1,9 @@
--- Numbers put into a lent table, one after the other.
+-- Values put into a lent table, one after the other.
 use Prim.Native.Nat.{ℕ, _+_}
 use mathlib.Core.List.{List, [], _∷_}
 use lib.ListN.{set}
 
--- the table l with the numbers put from place at on
-unfoldable pub puts : ℕ → List ℕ → List ℕ → List ℕ
+-- the table l with the values put from place at on
+unfoldable pub puts : {A : Type 0} → ℕ → List A → List A → List A
 puts at [] l = l
 puts at (x ∷ xs) l = puts (at + 1) xs (set l at x)

@@ -7,6 +7,8 @@ pub use cut_writing::CutsWritten;
 pub use cut_writing::write_cuts;
 pub use reading::ModelRead;
 pub use reading::read_model;
+pub use replay::Replayed;
+pub use replaying::replay;
 pub use running::Answer;
 pub use running::run;
 pub use writing::write::SheetWritten;

@@ -6,12 +6,11 @@ use mathlib.Core.Bool.{true}
 use mathlib.Core.List.{List}
 use mathlib.Core.Option.{Option, some, Option·getD}
 use lib.ListN.{length, getD, take}
-use lib.Seq.{getD-take}
 use Rattle.task.specs.declared.Block.{Block}
 use Rattle.task.specs.Loops.{tab, over}
-use Rattle.task.specs.Task.{Task, State, column, position, block, at, columnCount, isState, start}
+use Rattle.task.specs.Task.{Task, State, position, block, columnCount, isState, start}
 use Rattle.task.proofs.LoopLaws.{over-at}
-use Rattle.task.proofs.TaskLaws.{start-state, position-below}
+use Rattle.task.proofs.TaskLaws.{start-state}
 use Rattle.blocks.specs.Blocks.{Blocks, only, blocksOf, blockOf}
 use Rattle.blocks.specs.Flat.{blocksIn, cutsIn}
 use Rattle.blocks.proofs.CutLaws.{BlockIs, accepted-parts, block-of, blocks-length}
@@ -25,6 +24,7 @@ use Rattle.trace.specs.Hops.{Holds}
 use Rattle.walk.specs.declared.Found.{Found}
 use Rattle.walk.specs.declared.Found.the-variants as walk
 use Rattle.standing.specs.Standing.{Stands}
+use Rattle.standing.proofs.StartLaws as begin
 use Rattle.walk.specs.Walking.{Begins, seen, Known, walked}
 use Rattle.refining.specs.Listing.{pathSteps}
 use Rattle.refining.specs.Refining.{Given, Made, lookOf, toldBy, KnownSeen}
@@ -55,16 +55,9 @@ module _ (t : Task) {columns steps : ℕ} {x : State} {needs lands goals costs :
   pub start-is : isState t (take (columnCount t) x) ≡ true
   start-is = rw front (start-state t (g .task))
 
-  place : (j : ℕ) → j < columns → getD x j (position 0) ≡ at (start t) (column j)
-  unfolding at
-  place j h = sym (getD-take columns x j (position 0) h) ∙ ap (λ (y : State). getD y j (position 0)) (g .start)
-
   -- every position of the start is one
   pub place-small : (j : ℕ) → j < columns → getD x j (position 0) .0 < 32
-  place-small j h =
-      let b = position-below t (start t) (start-state t (g .task)) (column j) (omega (arith, wide)) in
-      let s = g .task .sizes (column j) (omega (arith, wide)) in
-      rw (place j h) (omega (arith, b, s .1))
+  place-small = begin.place-small t (g .task) wide x (g .start)
 
   pub cut-small : (i : ℕ) → i < made → (getD cuts (i * 3 + 1) 0 < 16) × (getD x (getD cuts (i * 3 + 1) 0) (position 0) .0 < 32)
   cut-small i h =
@@ -79,8 +72,7 @@ module _ (t : Task) {columns steps : ℕ} {x : State} {needs lands goals costs :
 
   -- the start as sets of one position each
   pub stands : (here : List ℕ) → Stands t (start t) (over (tab columns (λ j. only (getD x j (position 0)))) here)
-  unfolding Stands
-  stands here j h = over-at columns (λ j. only (getD x j (position 0))) here 0 (j .0) (omega (arith, wide)) ∙ ap only (place (j .0) (omega (arith, wide)))
+  stands = begin.stands t (g .task) wide x (g .start)
 
   -- ---- the start's block
   module _ {a : Block} (f : some a ≡ blockOf t bs (take (columnCount t) x)) where

@@ -1,14 +1,13 @@
 // The run: look at the blocks, make the cut of the flaw, and look again, until a plan, no plan, or a flaw with the room full.
 ghost use mathlib.Core.Path.{_≡_};
 ghost use mathlib.Core.List.{[]};
-ghost use Prim.Native.Nat.{ℕ, _+_, _*_, _≤_, _<_};
-ghost use lib.ListN.{length, getD};
-ghost use Rattle.task.specs.Loops.{tab, over};
+ghost use Prim.Native.Nat.{_+_, _*_, _≤_, _<_};
+ghost use lib.ListN.{length};
 ghost use Rattle.task.specs.Sizes.{limits};
 ghost use Rattle.task.specs.Tables.{taskOf};
-ghost use Rattle.task.specs.Task.{Task, Accepted, position};
+ghost use Rattle.task.specs.Task.{Task, Accepted};
 ghost use Rattle.fields.specs.Places.{puts};
-ghost use Rattle.blocks.specs.Blocks.{only, blocksOf};
+ghost use Rattle.blocks.specs.Blocks.{blocksOf};
 ghost use Rattle.blocks.specs.Flat.{cutsIn};
 ghost use Rattle.settling.specs.Ways.{noWay};
 ghost use Rattle.run.specs.Run as run;
@@ -24,8 +23,8 @@ use masks::fill_goals;
 use masks::fill_lands;
 use masks::fill_needs;
 use settling::fill_distances;
+use standing::stand;
 use task::Model;
-use task::Position;
 use task::State;
 use walk::Found;
 use walk::follow;
@@ -42,27 +41,6 @@ pub enum Ended {
     Plan(usize, usize),
     NoPlan(usize),
     Open(u32, usize),
-}
-
-// The set of one position.
-fn alone(position: Position) -> u32
-    requires { ⌜ position .0 < limits .positions ⌝ }
-    ensures { λ r. ⌜ r ≡ only position ⌝ }
-{
-    let p = position.0;
-    1 << p
-}
-
-// A state as sets of one position each.
-fn stand(columns: usize, state: State, here: &mut [u32; Model::COLUMNS])
-    requires { ⌜ (columns ≤ limits .columns) × (length (now here) ≡ limits .columns) × ((j : ℕ) → j < columns → getD state j (position 0) .0 < limits .positions) ⌝ }
-    ensures { λ _. ⌜ now (here .exit) ≡ over (tab columns (λ j. only (getD state j (position 0)))) (now (here .entry)) ⌝ }
-{
-    let mut j: usize = 0;
-    while j < columns {
-        here[j] = alone(state[j]);
-        j += 1;
-    }
 }
 
 // Puts cut i into a list of cuts.

@@ -44,7 +44,7 @@ lies-meets (some q) p = lies-goal (some q) (only p) ∙ holds-only p q ∙ turne
         ⊎-elim (λ (e : a ≡ b). eq-eqb a b e ∙ sym (eq-eqb b a (sym e))) (λ (n : a ≢ b). ne-eqb a b n ∙ sym (ne-eqb b a (λ z. n (sym z)))) (same-or-not a b)
 
 -- one position and a set have none in common where the set does not hold it
-apart-only : (p : Position) (b : PositionSet) → isEmpty (common (only p) b) ≡ not (holds b p)
+pub apart-only : (p : Position) (b : PositionSet) → isEmpty (common (only p) b) ≡ not (holds b p)
 apart-only p b =
     ⊎-elim
     (λ (h : holds b p ≡ true). rw h (common-held (only p) b p (holds-only p p ∙ eq-eqb (p .0) (p .0) refl) h))
@@ -59,7 +59,7 @@ apart-only p b =
     (true-or-false (isEmpty (common (only p) b)))))
     (true-or-false (holds b p))
 
-twice : (b : Bool) → not (not b) ≡ b
+pub twice : (b : Bool) → not (not b) ≡ b
 twice true = refl
 twice false = refl
 

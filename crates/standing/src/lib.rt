@@ -1,16 +1,42 @@
 // A state of the walk, as an array of masks: in each column the weight of its one position, so that every test is a test of masks. Whether a step can be
 // taken and where it lands, and the cut of a flaw.
 ghost use mathlib.Core.Path.{_≡_};
-ghost use Prim.Native.Nat.{_<_, _≤_};
-ghost use lib.ListN.{length};
+ghost use Prim.Native.Nat.{ℕ, _<_, _≤_};
+ghost use lib.ListN.{length, getD};
+ghost use Rattle.task.specs.Loops.{tab, over};
 ghost use Rattle.task.specs.Sizes.{limits};
+ghost use Rattle.task.specs.Task.{position};
+ghost use Rattle.blocks.specs.Blocks.{only};
 ghost use Rattle.standing.specs.Standing.{landed, backSet, isOff, takesBy, goalAtEnd, landsBy, takenBy, needRow, backRow, lowestOff, cutBy};
 use blocks::Cut;
 use masks::all_lie;
 use task::Block;
 use task::Column;
 use task::Model;
+use task::Position;
+use task::State;
 use task::Step;
+
+// The set of one position.
+fn alone(position: Position) -> u32
+    requires { ⌜ position .0 < limits .positions ⌝ }
+    ensures { λ r. ⌜ r ≡ only position ⌝ }
+{
+    let p = position.0;
+    1 << p
+}
+
+// A state as sets of one position each.
+pub fn stand(columns: usize, state: State, here: &mut [u32; Model::COLUMNS])
+    requires { ⌜ (columns ≤ limits .columns) × (length (now here) ≡ limits .columns) × ((j : ℕ) → j < columns → getD state j (position 0) .0 < limits .positions) ⌝ }
+    ensures { λ _. ⌜ now (here .exit) ≡ over (tab columns (λ j. only (getD state j (position 0)))) (now (here .entry)) ⌝ }
+{
+    let mut j: usize = 0;
+    while j < columns {
+        here[j] = alone(state[j]);
+        j += 1;
+    }
+}
 
 // Where a column stands after a step. 0 means that the step keeps the column.
 fn landed(land: u32, here: u32) -> u32

@@ -52,7 +52,7 @@ unfolding first
 first-ext zero f g e = refl
 first-ext (suc n) f g e = rw (first-ext n f g (λ i h. e i (omega arith)), e n (omega arith))
 
-first-empty : {A : Type 0} (n : ℕ) (f : ℕ → Option A) → ((i : ℕ) → i < n → f i ≡ none) → first n f ≡ none
+pub first-empty : {A : Type 0} (n : ℕ) (f : ℕ → Option A) → ((i : ℕ) → i < n → f i ≡ none) → first n f ≡ none
 unfolding first
 first-empty zero f e = refl
 first-empty (suc n) f e = rw (first-empty n f (λ i h. e i (omega arith)), e n (omega arith))

@@ -3,7 +3,7 @@ use native.Mathlib.Omega.{arith}
 use mathlib.Core.Path.{ap}
 use lib.ListN.{getD}
 use Rattle.asking.specs.Question.{costFound}
-use Rattle.asking.proofs.StateLaws.{followed-most}
+use Rattle.blocks.proofs.FollowLaws.{followed-most}
 use borrow.Author.Needs.{needs}
 use Rattle.asking.proofs.find_cost.Statement.{statement}
 use Rattle.asking.proofs.find_cost.Tie as tie

@@ -11,7 +11,7 @@ use Rattle.refining.proofs.look.Reads as reads
 use Rattle.refining.proofs.look.Lts as lts
 use Rattle.cutting.proofs.block_of.Reads as block-of-reads
 use Rattle.settling.proofs.fill_distances.Reads as fill-distances-reads
-use Rattle.refining.proofs.stand.Reads as stand-reads
+use Rattle.standing.proofs.stand.Reads as stand-reads
 use Rattle.refining.proofs.told.Reads as told-reads
 use Rattle.walk.proofs.follow.Reads as follow-reads
 

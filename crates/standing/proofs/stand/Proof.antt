@@ -8,11 +8,11 @@ use Rattle.task.proofs.LoopLaws.{over-none}
 use Rattle.blocks.specs.Blocks.{only}
 use Rattle.blocks.proofs.FlatLaws.{over-set}
 use borrow.Author.Needs.{needs}
-use Rattle.refining.proofs.stand.Statement.{statement}
-use Rattle.refining.proofs.stand.Tie as tie
-use Rattle.refining.proofs.stand.Reads as reads
-use Rattle.refining.proofs.stand.Lts as lts
-use Rattle.refining.proofs.alone.Reads as alone-reads
+use Rattle.standing.proofs.stand.Statement.{statement}
+use Rattle.standing.proofs.stand.Tie as tie
+use Rattle.standing.proofs.stand.Reads as reads
+use Rattle.standing.proofs.stand.Lts as lts
+use Rattle.standing.proofs.alone.Reads as alone-reads
 
 abbrev Inv-loop : tie.InvT-loop
 Inv-loop columns here₀ state j₀ here j = (j ≤ columns) × (length here ≡ 16) × (here ≡ over (tab j (λ k. only (getD state k (position 0)))) here₀)

@@ -1,0 +1,5 @@
+pub mod JoinLaws
+pub mod FigureLaws
+pub mod ReplayingLaws
+pub mod RowsLaws
+pub mod TabledLaws
