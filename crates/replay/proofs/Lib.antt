@@ -1,0 +1,4 @@
+pub mod SignedLaws
+pub mod LogLaws
+pub mod RowLaws
+pub mod PlanLaws
