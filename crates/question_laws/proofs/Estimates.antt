@@ -64,7 +64,8 @@ module _ (model s : List ℕ) (fine : refusal (cutSheetChecks model s) ≡ 0) wh
   unfolding cutsOf
   cuts-accepted = own-accepted t (tailOf s) (sheet-accepted model s fine .2)
 
-  few : length cs < limits .blocks
+  -- fewer than there can be blocks
+  pub few : length cs < limits .blocks
   unfolding cutsOf cutsNamed
   few = omega (arith, tab-length (countOf (tailOf s)) (λ k. cutNamed (cutOn (tailOf s) k)), count-below (tailOf s) refl)
 

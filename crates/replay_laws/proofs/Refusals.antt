@@ -1,0 +1,107 @@
+-- 01, "Refusal numbers", and order 7 of 02, of a replay: a number is returned exactly when its row applies and no earlier check does, 14 with the first
+-- row that is unknown or cannot be taken, and a refusal leaves the list as found. The checks, in 02's order, are `replayChecks`.
+use Prim.Native.Nat.{ℕ, _≤_, _*_}
+use native.Mathlib.Omega.{arith}
+use mathlib.Core.Path.{_≡_, refl, sym, ap, _∙_}
+use mathlib.Core.Bool.{Bool, true, false, not}
+use mathlib.Core.List.{List, [], _∷_, _++_}
+use lib.Dec.{eqb, ltb}
+use lib.IntN.{ℤ}
+use lib.ListN.{length}
+use borrow.Author.Tests.{eqb-true, eqb-false, eq-eqb, ltb-false, not-true, not-false}
+use Rattle.task.specs.Loops.{over}
+use Rattle.task.specs.Sizes.{limits}
+use Rattle.task.specs.Task.{Task}
+use Rattle.fields.specs.Judging.{Check, check, pick, _then_, refusal}
+use Rattle.fields.proofs.ExactLaws.{has, Numbers, numbers-append, gives, Judged, judges}
+use Rattle.fields.proofs.JudgingLaws.{neither, passed, refusal-append}
+use Rattle.sheets.specs.Holding.{taskOn}
+use Rattle.cut_sheets.specs.CutSheet.{cutSheetChecks, cutsOf}
+use Rattle.cut_laws.proofs.Refusals.{rebuildNumbers, sheets-numbers}
+use Rattle.replay.specs.declared.Replayed.{Replayed}
+use Rattle.replay.specs.declared.Replayed.the-variants.{Rows, Stopped, Refused}
+use Rattle.replay.specs.Replay.{badRow, rowList, logChecks, replayChecks, number, refused, Outcome, outcome, replaying}
+
+-- which numbers a replay can get
+abbrev pub numbers : List ℕ
+numbers = 1 ∷ 2 ∷ 3 ∷ 4 ∷ 5 ∷ 6 ∷ 8 ∷ 9 ∷ 10 ∷ 14 ∷ 15 ∷ []
+
+pub refused-number : (t : Task) (log : List ℕ) (n : ℕ) → number (refused t log n) ≡ n
+unfolding number refused
+refused-number t log n = split (eqb n 14) refl
+  where
+    split : (b : Bool) → eqb n 14 ≡ b → number (pick b (Stopped (badRow t log)) (Refused n)) ≡ n
+    split true e = sym (eqb-true n 14 e)
+    split false e = refl
+
+-- ---- the checks of a replay, whatever is too few of the places lent, which is the last of them
+module _ (model s log : List ℕ) (few : Bool) where
+  abbrev pub checks : List Check
+  checks = cutSheetChecks model s ++ (logChecks (taskOn model) log ++ (check 8 few ∷ []))
+
+  pub checks-numbers : Numbers (has numbers) checks
+  unfolding logChecks
+  checks-numbers = numbers-append (has numbers) rebuildNumbers refl (cutSheetChecks model s) _ (sheets-numbers model s) refl
+
+  -- what no refusal says
+  pub record Passed : Type 0 where
+    pub sheets : refusal (cutSheetChecks model s) ≡ 0
+    pub short : length log ≤ limits .log
+    pub fine : badRow (taskOn model) log ≡ 0
+    pub places : few ≡ false
+
+  pub quiet : refusal checks ≡ 0 → Passed
+  unfolding logChecks
+  quiet z =
+      let p = neither (refusal (cutSheetChecks model s)) _ (sym (refusal-append (cutSheetChecks model s) _) ∙ z) in
+      let q = passed 15 (ltb (limits .log) (length log)) _ (λ e. omega arith) (p .1) in
+      let r = passed 14 (not (eqb (badRow (taskOn model) log) 0)) _ (λ e. omega arith) (q .1) in
+      record {
+        sheets = p .0;
+        short = ltb-false (limits .log) (length log) (q .0);
+        fine = eqb-true (badRow (taskOn model) log) 0 (not-false _ (r .0));
+        places = passed 8 few _ (λ e. omega arith) (r .1) .0;
+      }
+
+  -- ---- 14 is given for a row that is bad, in a log that is not too long: else no check that counts has that number
+  abbrev long : Bool
+  long = ltb (limits .log) (length log)
+
+  abbrev others : List ℕ
+  others = 1 ∷ 2 ∷ 3 ∷ 4 ∷ 5 ∷ 6 ∷ 8 ∷ 9 ∷ 10 ∷ 15 ∷ []
+
+  -- checks with other numbers in place of those of the log
+  other : (cs : List Check) → Numbers (has others) cs → refusal (logChecks (taskOn model) log ++ (check 8 few ∷ [])) ≡ refusal cs → refusal checks ≡ 14 → ⊥
+  other cs n same e =
+      let m : Numbers (has others) (cutSheetChecks model s ++ cs) =
+      numbers-append (has others) rebuildNumbers refl (cutSheetChecks model s) cs (sheets-numbers model s) n in
+      let g : not (eqb (refusal (cutSheetChecks model s ++ cs)) 14) ≡ true = gives (λ k. not (eqb k 14)) others refl (cutSheetChecks model s ++ cs) m in
+      let q : refusal checks ≡ refusal (cutSheetChecks model s ++ cs) =
+      refusal-append (cutSheetChecks model s) _ ∙ ap (λ (k : ℕ). refusal (cutSheetChecks model s) then k) same
+      ∙ sym (refusal-append (cutSheetChecks model s) cs) in
+      eqb-false _ 14 (not-true _ g) (sym q ∙ e)
+
+  pub stopped-bad : refusal checks ≡ 14 → badRow (taskOn model) log ≡ 0 → ⊥
+  unfolding logChecks refusal
+  stopped-bad e z = other (check 15 long ∷ check 1 false ∷ check 8 few ∷ []) refl (rw (eq-eqb (badRow (taskOn model) log) 0 z)) e
+
+  pub stopped-short : refusal checks ≡ 14 → length log ≤ limits .log
+  unfolding logChecks refusal _then_
+  stopped-short e = split long refl
+    where
+      split : (b : Bool) → long ≡ b → length log ≤ limits .log
+      split true h = absurd (other (check 15 true ∷ []) refl (rw h) e)
+      split false h = ltb-false (limits .log) (length log) h
+
+-- ---- replay
+module _ (model s log : List ℕ) (rows : List ℤ) where
+  pub replay-numbers : Numbers (has numbers) (replayChecks model s log rows)
+  unfolding replayChecks
+  replay-numbers = checks-numbers model s log (ltb (length rows) (length log * 3))
+
+  pub replayer : Judged (λ (o : Outcome). number (o .answer)) (λ n. outcome (refused (taskOn model) log n) rows) (replayChecks model s log rows)
+      (outcome (Rows (length log)) (over (rowList (taskOn model) (cutsOf s) log) rows)) (replaying model s log rows)
+  unfolding replaying number
+  replayer =
+      let n = refusal (replayChecks model s log rows) in
+      judges _ _ numbers refl (replayChecks model s log rows) replay-numbers _ refl (refused-number (taskOn model) log n)

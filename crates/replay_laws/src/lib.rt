@@ -1,0 +1,1 @@
+// What holds of a replay as a whole: no function stands here.
