@@ -7,7 +7,7 @@ use mathlib.Core.List.{List, []}
 use mathlib.Core.Option.{Option, none, some, Option·getD}
 use lib.Dec.{eqb, ltb}
 use lib.ListN.{length, getD}
-use borrow.Author.Tests.{ltb-true}
+use borrow.Author.Tests.{ltb-true, not-false}
 use Rattle.task.specs.declared.Step.{Step}
 use Rattle.task.specs.Loops.{orElse, when, first}
 use Rattle.task.specs.Sizes.{limits}
@@ -29,17 +29,13 @@ and-when : (a : Bool) {b c : Bool} → (a ≡ true → b ≡ c) → (a && b) ≡
 and-when true f = f refl
 and-when false f = refl
 
-not-false : (b : Bool) → not b ≡ false → b ≡ true
-not-false true e = refl
-not-false false e = sym e
-
 -- nothing was found before what comes last, and that is nothing either
 none-less : {A : Type 0} (o p : Option A) → orElse o p ≡ none → (o ≡ none) × (p ≡ none)
 none-less none p e = (refl, e)
 none-less (some a) p e = let z : _≡_ {A = ℕ} 0 1 = cc in absurd (omega arith)
 
 module _ (t : Task) {columns steps : ℕ} {needs lands goals : List ℕ} (wide : columnCount t ≡ columns) (long : stepCount t ≡ steps) (told : Told t needs lands goals)
-    (log : List ℕ) {here : List ℕ} (begin : Stands t (start t) here) where
+    (log here : List ℕ) (begin : Stands t (start t) here) where
   -- a row that code stops at is a bad one, where the state stands before it
   goes-is : (i : ℕ) → Stands t (before t log i) (hereAfter columns lands log here i)
       → not (goesBy columns steps needs (hereAfter columns lands log here i) (getD log i 0)) ≡ badAt t log i
@@ -49,19 +45,20 @@ module _ (t : Task) {columns steps : ℕ} {needs lands goals : List ℕ} (wide :
       (ap (λ (n : ℕ). ltb (getD log i 0) n && takesBy columns needs (hereAfter columns lands log here i) (getD log i 0)) (sym long)
       ∙ and-when (ltb (getD log i 0) (stepCount t)) (λ h. takes-is t columns 0 needs lands goals [] told wide (before t log i) (hereAfter columns lands log here i) s (step (getD log i 0)) (ltb-true _ _ h)))
 
+  -- a step that does not stop it is taken
+  next : (i : ℕ) → Stands t (before t log i) (hereAfter columns lands log here i) → stopAt columns steps needs lands log here i ≡ none
+      → Stands t (before t log (suc i)) (hereAfter columns lands log here (suc i))
+  unfolding hereAfter before stopAt badAt stepAt
+  next i s n =
+      let g : not (ltb (getD log i 0) (stepCount t) && canTake t (step (getD log i 0)) (before t log i)) ≡ false = sym (goes-is i s) ∙ when-none _ _ n in
+      let k = not-false _ g in
+      stands-taken t columns 0 needs lands goals [] told wide (before t log i) (hereAfter columns lands log here i) s (step (getD log i 0)) (ltb-true _ _ (and-left (ltb (getD log i 0) (stepCount t)) _ k)) (and-right (ltb (getD log i 0) (stepCount t)) _ k)
+
   -- as long as nothing stops it, the state stands as the definition says
   stands-at : (i : ℕ) → first i (stopAt columns steps needs lands log here) ≡ none → Stands t (before t log i) (hereAfter columns lands log here i)
-  unfolding hereAfter before first stopAt
-  stands-at zero h = begin
-  stands-at (suc i) h =
-      let n = none-less (first i (stopAt columns steps needs lands log here)) _ h in
-      let s = stands-at i (n .0) in
-      let g : badAt t log i ≡ false = sym (goes-is i s) ∙ when-none _ _ (n .1) in
-      let k = fine (ltb (stepAt log i .0) (stepCount t)) (canTake t (stepAt log i) (before t log i)) (unfold badAt in g) in
-      unfold stepAt in stands-taken t columns 0 needs lands goals [] told wide (before t log i) (hereAfter columns lands log here i) s (step (getD log i 0)) (unfold stepAt in ltb-true _ _ (k .0)) (unfold stepAt in k .1)
-    where
-      fine : (a b : Bool) → not (a && b) ≡ false → (a ≡ true) × (b ≡ true)
-      fine a b e = let k = not-false (a && b) e in (and-left a b k, and-right a b k)
+  unfolding first
+  stands-at zero h = unfold hereAfter before in begin
+  stands-at (suc i) h = let n = none-less (first i (stopAt columns steps needs lands log here)) _ h in next i (stands-at i (n .0)) (n .1)
 
   same-first : (n : ℕ) → first n (stopAt columns steps needs lands log here) ≡ first n (λ i. when (badAt t log i) (i + 1))
   unfolding first
@@ -80,6 +77,7 @@ module _ (t : Task) {columns steps : ℕ} {needs lands goals : List ℕ} (wide :
 
   -- where there is none, the state stands along the whole log
   pub along : badRow t log ≡ 0 → (i : ℕ) → i ≤ length log → Stands t (before t log i) (hereAfter columns lands log here i)
+  unfolding stopRow stopAt
   along b i h = stands-at i (first-empty i stop (λ j l. first-none (length log) stop none-found j (omega arith)))
     where
       stop : ℕ → Option ℕ
@@ -89,11 +87,11 @@ module _ (t : Task) {columns steps : ℕ} {needs lands goals : List ℕ} (wide :
       go none e z = refl
       go (some a) e z =
           let r = first-some (length log) stop e in
-          let q = unfold stopAt in when-some _ (r .place + 1) (r .here) in
+          let q = when-some (not (goesBy columns steps needs (hereAfter columns lands log here (r .place)) (getD log (r .place) 0))) (r .place + 1) (r .here) in
           absurd (omega (arith, q .1))
 
       none-found : first (length log) stop ≡ none
-      none-found = go (first (length log) stop) refl (unfold stopRow in stop-is ∙ b)
+      none-found = go (first (length log) stop) refl (stop-is ∙ b)
 
 -- ---- the block of a state that stands here
 module _ (t : Task) (cuts : List ℕ) (x : State) (here : List ℕ) (stands : Stands t x here) where

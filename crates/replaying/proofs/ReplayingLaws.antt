@@ -64,7 +64,7 @@ module _ (m s log : List ℕ) (rows : List ℤ) where
       long-refused h = refusing (applies 15 (ltb (limits .log) (length log)) _ (lt-ltb _ _ h) (λ q. omega arith) ∙ sym left) (λ q. omega arith) (λ q. omega arith)
 
       pub fine : Sheets m (tailOf s) exit
-      fine = let k = sheets-ok m s [] j z in record { sheet = k .0; part = k .2; made = j .made z }
+      fine = let k = sheets-ok m s [] j z in record { model-fine = k .0; part-fine = k .2; made = j .made z }
 
       -- what is left is the rest of the replay
       pub ends : length log ≤ limits .log → {a : Replayed} {next : List ℤ} → outcome a next ≡ replayedOn (taskOn m) (cutsOf s) log rows → Replays m s log rows a next

@@ -68,7 +68,8 @@ module _ (t : Task) (v : Accepted t) (cs : List Cut) (ok : accepted t cs ≡ tru
       pub rows-are : (rows : List ℤ) → length log * 3 ≤ length rows → {next : List ℤ} → next ≡ puts 0 (each (length log) (rowBy costs log estimates)) rows → next ≡ over (rowList t cs log) rows
       unfolding over rowList
       rows-are rows h e =
-          e ∙ ap (λ (x : List ℤ). puts 0 x rows) (each-ext (length log) _ _ row-is) ∙ puts-over (each (length log) (rowValues t cs log)) rows (omega (arith, unfold rowList in rows-length t cs log))
+          let l = rows-length t cs log in
+          e ∙ ap (λ (x : List ℤ). puts 0 x rows) (each-ext (length log) _ _ row-is) ∙ puts-over (each (length log) (rowValues t cs log)) rows (omega (arith, l))
 
 -- ---- accepted sheets, and the model in tables
 module _ {model part sets : List ℕ} (fine : Sheets model part sets) (log : List ℕ) {f : Frame} {needs lands goals here : List ℕ} (tabled : Tabled (taskOn model) f needs lands goals here) where
@@ -78,16 +79,16 @@ module _ {model part sets : List ℕ} (fine : Sheets model part sets) (log : Lis
   abbrev cs : List Cut
   cs = cutsNamed (cutOn part) (countOf part)
 
-  given : Accepted t
-  given = unfold taskOn in accepted-task model (fine .sheet)
+  pub given : Accepted t
+  given = unfold taskOn in accepted-task model (fine .model-fine)
 
   pub stop-known : stopRow (f .columns) (f .steps) needs lands log here ≡ badRow t log
-  stop-known = stop-is t (tabled .tables .wide) (tabled .tables .long) (tabled .tables .told) log (tabled .stands)
+  stop-known = stop-is t (tabled .tables .wide) (tabled .tables .long) (tabled .tables .told) log here (tabled .stands)
 
-  cuts-ok : accepted t cs ≡ true
-  cuts-ok = own-accepted t part (fine .part)
+  pub cuts-ok : accepted t cs ≡ true
+  cuts-ok = own-accepted t part (fine .part-fine)
 
-  cuts-few : length cs < limits .blocks
+  pub cuts-few : length cs < limits .blocks
   unfolding cutsNamed
   cuts-few = omega (arith, tab-length (countOf part) (λ k. cutNamed (cutOn part k)), count-below part refl)
 
@@ -107,7 +108,7 @@ module _ {model part sets : List ℕ} (fine : Sheets model part sets) (log : Lis
     module _ {count : ℕ} (e : count ≡ countOf part) (few : count < limits .blocks) (old : List ℕ) (room : count * 3 ≤ length old) {cuts : List ℕ} (q : cuts ≡ puts 0 (each count (cutValues (cutOn part))) old)
         (dist₀ : List ℕ) {dist : List ℕ} (d : dist ≡ codedOver t (blocksIn (f .columns) (count + 1) sets) (count + 1) dist₀) where
       column-there : (i : ℕ) → i < count → getD cuts (i * 3 + 1) 0 < f .columns
-      column-there = listed.column-small t (tabled .tables .wide) given part sets (fine .part) stand e few old room q
+      column-there = listed.column-small t (tabled .tables .wide) given part sets (fine .part-fine) stand e few old room q
 
       pub cuts-there : count * 3 ≤ length cuts → Cuts count cuts dist
       cuts-there l =
@@ -115,22 +116,22 @@ module _ {model part sets : List ℕ} (fine : Sheets model part sets) (log : Lis
             few = few;
             listed = l;
             there = λ i h. omega (arith, column-there i h, tabled .narrow);
-            costs = listed.dist-small t (tabled .tables .wide) given part sets (fine .part) stand e few old room q dist₀ d;
+            costs = listed.dist-small t (tabled .tables .wide) given part sets (fine .part-fine) stand e few old room q dist₀ d;
           }
 
       named : cutsIn count cuts ≡ cs
-      named = listed.list t (tabled .tables .wide) given part sets (fine .part) stand e few old room q
+      named = listed.list t (tabled .tables .wide) given part sets (fine .part-fine) stand e few old room q
 
       pub estimated : (old-estimates : List ℕ) {estimates : List ℕ}
           → estimates ≡ over (tab (length log + 1) (costAfter (f .columns) lands count cuts dist log here)) old-estimates → Estimated t given cs cuts-ok cuts-few log good estimates
       unfolding far costAfter
       estimated o w i h =
-          let s = along t (tabled .tables .wide) (tabled .tables .long) (tabled .tables .told) log (tabled .stands) good i h in
+          let s = along t (tabled .tables .wide) (tabled .tables .long) (tabled .tables .told) log here (tabled .stands) good i h in
           ap (λ (l : List ℕ). getD l i 0) w
           ∙ over-at (length log + 1) _ o 0 i (omega arith)
-          ∙ cost-is t cuts (before t log i) (hereAfter (f .columns) lands log here i) s given count (listed.good-cuts t (tabled .tables .wide) given part sets (fine .part) stand e few old room q) few
+          ∙ cost-is t cuts (before t log i) (hereAfter (f .columns) lands log here i) s given count (listed.good-cuts t (tabled .tables .wide) given part sets (fine .part-fine) stand e few old room q) few
           (λ k l. omega (arith, column-there k l, tabled .tables .wide)) dist₀
-          (listed.coded t (tabled .tables .wide) given part sets (fine .part) stand e few old room q dist₀ d) (before-state t given log i)
+          (listed.coded t (tabled .tables .wide) given part sets (fine .part-fine) stand e few old room q dist₀ d) (before-state t given log i)
           ∙ ap (λ (l : List Cut). Option·getD (far t l log i) (limits .«no_way»)) named
 
       module _ (old-estimates : List ℕ) {estimates : List ℕ}

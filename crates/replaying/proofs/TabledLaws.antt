@@ -24,7 +24,7 @@ use Rattle.standing.proofs.StartLaws.{start-front, place-small, stands}
 use Rattle.replaying.specs.declared.Frame.{Frame}
 use Rattle.replaying.specs.Replaying.{Tabled}
 
-module _ (model : List ℕ) (ok : judgeSheet model ≡ 0) {r : Read} (e : r ≡ unpacked model) (long : length (r .model .start) ≡ limits .columns) where
+module _ (model : List ℕ) (ok : judgeSheet model ≡ 0) {r : Read} (e : r ≡ unpacked model) (long : length (r .model .start) ≡ limits .columns) (dear : length (r .model .cost) ≡ limits .steps) where
   code : r .code ≡ 0
   code = read-code model e ∙ ok
 
@@ -50,5 +50,6 @@ module _ (model : List ℕ) (ok : judgeSheet model ≡ 0) {r : Read} (e : r ≡ 
         stands = rw h (stands (taskOf m) v (columns-of m) (m .start) (start-front m v long) old);
         narrow = narrow;
         few = omega (arith, v .steps, steps-of m);
+        costs-long = dear;
         long = ap length h ∙ over-length (m .columns) _ old (omega (arith, narrow, l)) ∙ l;
       })

@@ -46,11 +46,12 @@ pub record Tabled (t : Task) (f : Frame) (needs lands goals here : List ℕ) : T
   pub narrow : f .columns ≤ limits .columns
   pub few : f .steps ≤ limits .steps
   pub long : length here ≡ limits .columns
+  pub costs-long : length (f .costs) ≡ limits .steps
 
 -- accepted sheets: the model's, and the part with the cuts, whose blocks stand in the array
 pub record Sheets (model part sets : List ℕ) : Type 0 where
-  pub sheet : judgeSheet model ≡ 0
-  pub part : judgeCuts (taskOn model) part ≡ 0
+  pub model-fine : judgeSheet model ≡ 0
+  pub part-fine : judgeCuts (taskOn model) part ≡ 0
   pub made : Made (taskOn model) (cutOn part) (columnCount (taskOn model)) (countOf part) sets
 
 -- what is left of a replay after the sheets and the length of its log: 14, then 8

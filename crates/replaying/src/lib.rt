@@ -104,11 +104,14 @@ fn fill_tables(
     fill_needs(given, needs);
     fill_lands(given, lands);
     fill_goals(given, goals);
-    stand(columns, given.start, here);
+    let start = given.start;
+    stand(columns, start, here);
+    let steps = given.steps;
+    let costs = given.cost;
     Frame {
         columns: columns,
-        steps: given.steps,
-        costs: given.cost,
+        steps: steps,
+        costs: costs,
     }
 }
 
