@@ -1,9 +1,12 @@
 -- Places that can matter: all that are lent, or as many as can be used.
-use Prim.Native.Nat.{ℕ, _≤_, _<_}
+use Prim.Native.Nat.{ℕ, _*_, _≤_, _<_}
 use native.Mathlib.Omega.{arith}
 use native.Mathlib.Decide.{decLt}
-use mathlib.Core.Path.{_≡_, sym, _∙_}
+use mathlib.Core.Path.{_≡_, sym, ap, _∙_}
+use mathlib.Core.List.{List}
 use lib.Dec.{ltb}
+use lib.ListN.{length, take}
+use lib.Seq.{length-take-le}
 use borrow.Author.Tests.{lt-ltb, le-ltb}
 use Rattle.counts.specs.Counts.{usable}
 
@@ -41,3 +44,13 @@ same-test a b c d f g = split (decLt a b)
     split : Dec (a < b) → ltb a b ≡ ltb c d
     split (yes h) = lt-ltb a b h ∙ sym (lt-ltb c d (f h))
     split (no h) = le-ltb a b (omega arith) ∙ sym (le-ltb c d (g (omega arith)))
+
+-- ---- a list with three values for each place that can matter
+pub part-long : {A : Type 0} (most places : ℕ) (list : List A) {k : ℕ} → length list ≡ most * 3 → k ≡ usable most places → length (take (k * 3) list) ≡ usable most places * 3
+part-long most places list {k} l e = length-take-le (k * 3) list (omega (arith, at-most most places e)) ∙ ap (λ (x : ℕ). x * 3) e
+
+-- whether k places are missing is seen in it
+pub missing-same : (most places k have : ℕ) → k ≤ most → have ≡ usable most places * 3 → ltb places k ≡ ltb have (k * 3)
+missing-same most places k have h e =
+    let u = usable-is most places in
+    same-test places k have (k * 3) (λ p. omega (arith, u .there)) (λ p. let q = u .enough k h p in omega arith)

@@ -29,8 +29,9 @@ use Rattle.asking.specs.declared.Asked.the-variants.{Estimates}
 use Rattle.asking.specs.Question as question
 use Rattle.asking.specs.Question.{stateIn, statesIn, badStates, estimateAt, estimatesOf, valued, Asks}
 use Rattle.question_laws.proofs.Estimates as estimates
-use Rattle.historian.specs.Entries.{bytesOf, fewPlaces, askChecks, AskOutcome, EntryRuns, EntryAsks}
-use Rattle.demands.proofs.Numbers.{kind, value, valueOn, value-back}
+use Rattle.values.specs.Values.{bytesOf, valueOn}
+use Rattle.historian.specs.Entries.{fewPlaces, askChecks, AskOutcome, EntryRuns, EntryAsks}
+use Rattle.demands.proofs.Numbers.{kind, value, value-back}
 use Rattle.demands.proofs.Refusals.{elhavir-question-judged}
 use Rattle.demands.proofs.Entry as entry
 use Rattle.demands.proofs.Cuts as cut

@@ -22,7 +22,8 @@ use Rattle.running.specs.declared.Answer.the-variants.{Plan, NoPlan, Open, Refu
 use Rattle.running.specs.Running.{number, Runs}
 use Rattle.run_laws.proofs.Flaws.{FlawMet}
 use Rattle.run_laws.proofs.Answers as said
-use Rattle.historian.specs.Entries.{bytesOf, EntryRuns}
+use Rattle.values.specs.Values.{bytesOf}
+use Rattle.historian.specs.Entries.{EntryRuns}
 use Rattle.demands.proofs.Numbers.{kind, blocks}
 use Rattle.demands.proofs.Entry as entry
 

@@ -27,7 +27,8 @@ use Rattle.run.proofs.RunLaws.{Cheapest, NoPlan, Right, run-right}
 use Rattle.run.proofs.LengthLaws.{plan-short}
 use Rattle.refining.specs.Listing.{listed, cutPlace, rowPlace}
 use Rattle.running.specs.Running.{told}
-use Rattle.historian.specs.Entries.{bytesOf, answerNumber, entryChecks, RunOutcome, madeBytes, EntryRuns}
+use Rattle.values.specs.Values.{bytesOf}
+use Rattle.historian.specs.Entries.{answerNumber, entryChecks, RunOutcome, madeBytes, EntryRuns}
 use Rattle.demands.proofs.Numbers.{kind, blocks, steps, value, Parts, takes-apart}
 use Rattle.demands.proofs.RefusalNumbers.{entry-low}
 use Rattle.demands.proofs.Refusals.{entry-made, entry-refused}

@@ -3,13 +3,14 @@
 use Prim.Native.Nat.{ℕ, _+_, _*_, _/_, _%_, _^_, _<_}
 use native.Mathlib.Omega.{arith}
 use native.Mathlib.Nat.{add-zero}
-use mathlib.Core.Path.{_≡_, refl, _∙_}
+use mathlib.Core.Path.{_≡_, _∙_}
 use mathlib.Core.List.{List}
 use lib.ListN.{length, getD, List·getD-append}
 use Rattle.task.specs.Loops.{over}
 use Rattle.fields.specs.Judging.{each}
 use Rattle.fields.proofs.PlaceLaws.{each-length, each-at}
-use Rattle.historian.specs.Entries.{valueBytes, bytesAt, bytesOf}
+use Rattle.values.specs.Values.{valueBytes, bytesAt, bytesOf, valueOn}
+use Rattle.values.proofs.ValueLaws.{four}
 
 -- ---- an answer's parts, as the header takes them
 abbrev pub kind : ℕ → ℕ
@@ -33,10 +34,7 @@ pub record Parts (r k b n v : ℕ) : Type 0 where
 pub takes-apart : (k b n v : ℕ) → b < 4096 → n < 4096 → v < 2 ^ 32 → Parts (k * 2 ^ 56 + b * 2 ^ 44 + n * 2 ^ 32 + v) k b n v
 takes-apart k b n v hb hn hv = record { kind-is = omega arith; blocks-is = omega arith; steps-is = omega arith; value-is = omega arith }
 
--- ---- value k of a list of bytes, as a C program takes it: four bytes, most significant first
-abbrev pub valueOn : List ℕ → ℕ → ℕ
-valueOn bytes k = getD bytes (k * 4) 0 * 2 ^ 24 + getD bytes (k * 4 + 1) 0 * 2 ^ 16 + getD bytes (k * 4 + 2) 0 * 2 ^ 8 + getD bytes (k * 4 + 3) 0
-
+-- ---- value k of a list of bytes, as a C program takes it
 four-bytes : (v : ℕ) → v < 2 ^ 32 → v / 2 ^ 24 % 256 * 2 ^ 24 + v / 2 ^ 16 % 256 * 2 ^ 16 + v / 2 ^ 8 % 256 * 2 ^ 8 + v % 256 ≡ v
 four-bytes v h =
     let a : v / 2 ^ 8 / 256 ≡ v / 2 ^ 16 = omega arith in
@@ -45,15 +43,11 @@ four-bytes v h =
     omega (arith, a, b, c)
 
 module _ (vs bytes₀ : List ℕ) (k : ℕ) (h : k < length vs) where
-  four : (i : ℕ) → length (bytesAt vs i) ≡ 4
-  unfolding bytesAt valueBytes
-  four i = refl
-
   byte-at : (i : ℕ) → i < 4 → getD (over (bytesOf vs) bytes₀) (k * 4 + i) 0 ≡ getD (valueBytes (getD vs k 0)) i 0
   unfolding over bytesOf bytesAt
   byte-at i l =
-      List·getD-append (each (length vs) (bytesAt vs)) _ 0 (k * 4 + i) (omega (arith, each-length (bytesAt vs) 4 four (length vs)))
-      ∙ each-at (bytesAt vs) 4 four (length vs) k i h l
+      List·getD-append (each (length vs) (bytesAt vs)) _ 0 (k * 4 + i) (omega (arith, each-length (bytesAt vs) 4 (four vs) (length vs)))
+      ∙ each-at (bytesAt vs) 4 (four vs) (length vs) k i h l
 
   -- it is the value that was put there
   pub value-back : getD vs k 0 < 2 ^ 32 → valueOn (over (bytesOf vs) bytes₀) k ≡ getD vs k 0

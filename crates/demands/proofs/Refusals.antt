@@ -54,7 +54,8 @@ use Rattle.running.specs.Running as running
 use Rattle.running.specs.Running.{told}
 use Rattle.rows.specs.Rows as rows
 use Rattle.rows.specs.Rows.{rowChecks, rowRun, RowRuns}
-use Rattle.historian.specs.Entries.{answerNumber, entryChecks, RunOutcome, runOutcome, madeBytes, runEntry, bytesOf, askChecks, AskOutcome, askOutcome, askEntry, EntryRuns, EntryAsks}
+use Rattle.values.specs.Values.{bytesOf}
+use Rattle.historian.specs.Entries.{answerNumber, entryChecks, RunOutcome, runOutcome, madeBytes, runEntry, askChecks, AskOutcome, askOutcome, askEntry, EntryRuns, EntryAsks}
 use Rattle.demands.proofs.RefusalNumbers.{sheetNumbers, cutNumbers, rebuildNumbers, questionNumbers, read-gives, write-gives, rebuild-gives, write-cuts-gives, question-gives, ask-numbers, ask-gives, runNumbers, run-gives, row-numbers, row-run-gives, entry-numbers, entry-gives, entry-low}
 
 -- ---- read_model

@@ -32,8 +32,9 @@ use Rattle.run.specs.Run.{rows}
 use Rattle.refining.specs.Listing.{listed, cutPlace, rowPlace}
 use Rattle.refining.proofs.CutListLaws.{listed-three}
 use Rattle.running.proofs.RowLaws.{row-each}
-use Rattle.historian.specs.Entries.{bytesOf, EntryRuns}
-use Rattle.demands.proofs.Numbers.{kind, valueOn, value-back}
+use Rattle.values.specs.Values.{bytesOf, valueOn}
+use Rattle.historian.specs.Entries.{EntryRuns}
+use Rattle.demands.proofs.Numbers.{kind, value-back}
 use Rattle.demands.proofs.Entry.{costs-few}
 use Rattle.demands.proofs.Answers.{entry-plan-right}
 use Rattle.demands.proofs.Cuts as cut

@@ -18,7 +18,9 @@ use Rattle.running.specs.declared.Answer.the-variants.{Plan, NoPlan, Open, Refu
 use Rattle.running.specs.Running.{number, Outcome, Runs}
 use Rattle.running.proofs.RowLaws.{three}
 use Rattle.run_laws.proofs.Answers as said
-use Rattle.historian.specs.Entries.{valueBytes, bytesAt, bytesOf, entryChecks, RunOutcome, EntryRuns}
+use Rattle.values.specs.Values.{bytesAt, bytesOf}
+use Rattle.values.proofs.ValueLaws.{four}
+use Rattle.historian.specs.Entries.{entryChecks, RunOutcome, EntryRuns}
 use Rattle.demands.proofs.Numbers.{kind, steps}
 use Rattle.demands.proofs.Refusals.{run-judged, entry-refused}
 use Rattle.demands.proofs.Entry as entry
@@ -37,8 +39,8 @@ unfolding over
 past n new old e k = rw (sym k, e) (drop-front new (drop (length new) old))
 
 bytes-length : (vs : List ℕ) → length (bytesOf vs) ≡ length vs * 4
-unfolding bytesOf bytesAt valueBytes
-bytes-length vs = each-length (bytesAt vs) 4 (λ i. refl) (length vs)
+unfolding bytesOf
+bytes-length vs = each-length (bytesAt vs) 4 (four vs) (length vs)
 
 -- ---- run
 module _ (s : List ℕ) (room : ℕ) (cuts rs : List ℕ) {c l : List ℕ} where

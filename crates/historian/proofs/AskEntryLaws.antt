@@ -25,8 +25,9 @@ use Rattle.asking.specs.Question as question
 use Rattle.asking.proofs.AnswerLaws.{few-states}
 use Rattle.counts.specs.Counts.{usable}
 use Rattle.counts.proofs.UsableLaws.{usable-is, same-test}
-use Rattle.historian.specs.Entries.{bytesAt, fewPlaces, askChecks, askOutcome, askEntry, EntryAsks}
-use Rattle.historian.proofs.ValueLaws.{list-over}
+use Rattle.values.specs.Values.{bytesAt}
+use Rattle.values.proofs.ValueLaws.{list-over}
+use Rattle.historian.specs.Entries.{fewPlaces, askChecks, askOutcome, askEntry, EntryAsks}
 use Rattle.sheets.specs.Holding.{taskOn}
 
 module _ (model s states l : List ℕ) where

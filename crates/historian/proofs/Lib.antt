@@ -1,3 +1,2 @@
-pub mod ValueLaws
 pub mod RunEntryLaws
 pub mod AskEntryLaws

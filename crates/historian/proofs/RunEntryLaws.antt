@@ -20,16 +20,15 @@ use Rattle.running.specs.declared.Answer.{Answer}
 use Rattle.running.specs.Running.{roomChecks, runChecks, Runs}
 use Rattle.counts.specs.Counts.{cutValueCount, rowCount, rowValueCount, Counted, usable}
 use Rattle.counts.proofs.CountLaws as count
-use Rattle.counts.proofs.UsableLaws.{usable-is, same-test}
-use Rattle.historian.specs.Entries.{bytesAt, bytesOf, fewPlaces, answerNumber, entryChecks, madeBytes, runOutcome, runEntry, EntryRuns}
-use Rattle.historian.proofs.ValueLaws.{list-over, nothing-put}
+use Rattle.counts.proofs.UsableLaws.{usable-is, part-long, missing-same}
+use Rattle.values.specs.Values.{bytesAt, bytesOf}
+use Rattle.values.proofs.ValueLaws.{list-over, nothing-put}
+use Rattle.historian.specs.Entries.{fewPlaces, answerNumber, entryChecks, madeBytes, runOutcome, runEntry, EntryRuns}
 
 -- ---- 8 is judged on the places lent
 module _ (s : List ℕ) (room : ℕ) (cuts rows c r : List ℕ) (lc : length c ≡ usable 255 (length cuts / 12) * 3) (lr : length r ≡ usable 255 (length rows / 12) * 3) where
   few-same : room ≤ 256 → (bytes list : List ℕ) → length list ≡ usable 255 (length bytes / 12) * 3 → ltb (length bytes / 12) (room - 1) ≡ ltb (length list) ((room - 1) * 3)
-  few-same h bytes list e =
-      let u = usable-is 255 (length bytes / 12) in
-      same-test (length bytes / 12) (room - 1) (length list) ((room - 1) * 3) (λ p. omega (arith, u .there)) (λ p. let q = u .enough (room - 1) (omega arith) p in omega arith)
+  few-same h bytes list e = missing-same 255 (length bytes / 12) (room - 1) (length list) (omega arith) e
 
   abbrev RoomSame : Type 0
   RoomSame = refusal (check 7 (outside 1 (limits .blocks) room) ∷ fewPlaces (room - 1) 12 cuts ∷ fewPlaces (room - 1) 12 rows ∷ []) ≡ refusal (roomChecks room c r)
@@ -111,11 +110,8 @@ module _ (s : List ℕ) (room : ℕ) (cutList rowList : List ℕ) (m n : ℕ) {a
       (omega (arith, known .rows-fit, l), omega (arith, known .rows-in, length-append r′ (drop (n * 3) rowList)), omega (arith, known .rows-fit, l))
 
   module _ (cuts rows : List ℕ) (h : (length cutList ≡ 765) × (length rowList ≡ 765)) (p : m ≡ usable 255 (length cuts / 12)) (q : n ≡ usable 255 (length rows / 12)) where
-    part : (list bytes : List ℕ) {k : ℕ} → length list ≡ 765 → k ≡ usable 255 (length bytes / 12) → length (take (k * 3) list) ≡ usable 255 (length bytes / 12) * 3
-    part list bytes {k} l e = length-take-le (k * 3) list (omega (arith, usable-is 255 (length bytes / 12) .few)) ∙ ap (λ (x : ℕ). x * 3) e
-
     pub told-in : {k l x : ℕ} {cuts′ rows′ : List ℕ} → k ≡ cutValueCount a → l ≡ rowValueCount a → x ≡ answerNumber a
         → cuts′ ≡ puts 0 (each k (bytesAt (c′ ++ drop (m * 3) cutList))) cuts → rows′ ≡ puts 0 (each l (bytesAt (r′ ++ drop (n * 3) rowList))) rows → EntryRuns s room cuts rows x cuts′ rows′
     told-in k l x y z =
-        entry-told s room cuts rows (take (m * 3) cutList) (take (n * 3) rowList) (part cutList cuts (h .0) p) (part rowList rows (h .1) q) e (drop (m * 3) cutList) (drop (n * 3) rowList)
+        entry-told s room cuts rows (take (m * 3) cutList) (take (n * 3) rowList) (part-long 255 (length cuts / 12) cutList (h .0) p) (part-long 255 (length rows / 12) rowList (h .1) q) e (drop (m * 3) cutList) (drop (n * 3) rowList)
         (y ∙ ap (λ (i : ℕ). puts 0 (each i (bytesAt (c′ ++ drop (m * 3) cutList))) cuts) k) (z ∙ ap (λ (i : ℕ). puts 0 (each i (bytesAt (r′ ++ drop (n * 3) rowList))) rows) l) x

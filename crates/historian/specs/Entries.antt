@@ -1,12 +1,13 @@
 -- 01, "The planner's boundary": the run and the question for the historian, which passes lists of bytes.
-use Prim.Native.Nat.{ℕ, _+_, _-_, _*_, _/_, _%_, _^_}
+use Prim.Native.Nat.{ℕ, _+_, _-_, _*_, _/_, _^_}
 use mathlib.Core.Path.{_≡_}
 use mathlib.Core.List.{List, [], _∷_, _++_}
 use lib.Dec.{eqb, ltb}
-use lib.ListN.{length, getD}
+use lib.ListN.{length}
 use Rattle.task.specs.Loops.{over}
 use Rattle.task.specs.Task.{Task}
-use Rattle.fields.specs.Judging.{Check, check, pick, refusal, each}
+use Rattle.fields.specs.Judging.{Check, check, pick, refusal}
+use Rattle.values.specs.Values.{bytesOf}
 use Rattle.sheets.specs.ModelSheet.{sheetChecks}
 use Rattle.sheets.specs.Holding.{taskOn}
 use Rattle.run.specs.Run as run
@@ -17,18 +18,6 @@ use Rattle.running.specs.declared.Answer.the-variants.{Plan, NoPlan, Open, Refu
 use Rattle.running.specs.Running.{roomCheck, told}
 use Rattle.cut_sheets.specs.CutSheet.{cutSheetChecks, cutsOf}
 use Rattle.asking.specs.Question.{statesIn, badStates, estimatesOf}
-
--- a value is four bytes, most significant first
-unfoldable pub valueBytes : ℕ → List ℕ
-valueBytes v = v / 2 ^ 24 % 256 ∷ v / 2 ^ 16 % 256 ∷ v / 2 ^ 8 % 256 ∷ v % 256 ∷ []
-
--- the bytes of value i of a list
-unfoldable pub bytesAt : List ℕ → ℕ → List ℕ
-bytesAt vs i = valueBytes (getD vs i 0)
-
--- the values of a list one after the other
-unfoldable pub bytesOf : List ℕ → List ℕ
-bytesOf vs = each (length vs) (bytesAt vs)
 
 -- 8: fewer than n places of w bytes each; bytes short of a whole place are no place
 unfoldable pub fewPlaces : ℕ → ℕ → List ℕ → Check

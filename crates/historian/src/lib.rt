@@ -1,12 +1,10 @@
 // The run and the question as the historian calls them, a C program that passes byte lists and numbers. Nothing is asked of the caller.
 ghost use mathlib.Core.Path.{_≡_};
-ghost use Prim.Native.Nat.{_+_, _-_, _*_, _≤_, _<_};
+ghost use Prim.Native.Nat.{_+_, _-_, _*_, _≤_};
 ghost use lib.ListN.{length};
 ghost use Rattle.task.specs.Sizes.{limits};
-ghost use Rattle.fields.specs.Judging.{each};
-ghost use Rattle.fields.specs.Places.{puts};
 ghost use Rattle.counts.specs.Counts.{Counted};
-ghost use Rattle.historian.specs.Entries.{valueBytes, bytesAt, answerNumber, EntryRuns, EntryAsks};
+ghost use Rattle.historian.specs.Entries.{answerNumber, EntryRuns, EntryAsks};
 use counts::cut_values;
 use counts::row_values;
 use counts::usable_places;
@@ -15,6 +13,7 @@ use planner::Asked;
 use planner::question;
 use planner::run;
 use task::Model;
+use values::put_values;
 
 // What a kind, a block and a step weigh in an answer number: 2^56, 2^44 and 2^32.
 const KIND: u64 = 72057594037927936;
@@ -22,30 +21,6 @@ const KIND: u64 = 72057594037927936;
 const BLOCK: u64 = 17592186044416;
 
 const STEP: u64 = 4294967296;
-
-// Puts value i of a list: four bytes, most significant first.
-fn put_value(v: u32, i: usize, bytes: &mut [u8])
-    requires { ⌜ (i < 1024) × (i * 4 + 4 ≤ length (now bytes)) ⌝ }
-    ensures { λ _. ⌜ now (bytes .exit) ≡ puts (i * 4) (valueBytes v) (now (bytes .entry)) ⌝ }
-{
-    let at = i * 4;
-    bytes[at] = (v / 16777216 % 256) as u8;
-    bytes[at + 1] = (v / 65536 % 256) as u8;
-    bytes[at + 2] = (v / 256 % 256) as u8;
-    bytes[at + 3] = (v % 256) as u8;
-}
-
-// Puts the first n values of a list over the front of the bytes.
-fn put_values(values: &[u32], n: usize, bytes: &mut [u8])
-    requires { ⌜ (n < 1024) × (n ≤ length (now values)) × (n * 4 ≤ length (now bytes)) ⌝ }
-    ensures { λ _. ⌜ now (bytes .exit) ≡ puts 0 (each n (bytesAt (now (values .entry)))) (now (bytes .entry)) ⌝ }
-{
-    let mut i: usize = 0;
-    while i < n {
-        put_value(values[i], i, bytes);
-        i += 1;
-    }
-}
 
 // Kind, blocks, steps and value in one number.
 fn answer_number(answer: Answer) -> u64

@@ -33,7 +33,7 @@ use Rattle.running.specs.Running.{roomChecks, runChecks, told}
 use Rattle.running.proofs.RowLaws.{row-each}
 use Rattle.counts.specs.Counts.{rowCount, usable}
 use Rattle.counts.proofs.CountLaws as count
-use Rattle.counts.proofs.UsableLaws.{usable-is, at-most, same-test}
+use Rattle.counts.proofs.UsableLaws.{usable-is, at-most, missing-same}
 use Rattle.rows.specs.Rows.{filling, rowChecks, rowRun, RowRuns}
 use Rattle.rows.proofs.FillLaws.{listed-long, listed-put, nothing-put}
 
@@ -63,9 +63,7 @@ module _ (t : Task) where
 -- ---- 8 is judged on the places lent
 module _ (s : List ℕ) (room : ℕ) (cuts : List ℕ) (lent : List Row) (list : List ℕ) (l : length list ≡ usable 255 (length lent) * 3) where
   few-same : room ≤ 256 → ltb (length lent) (room - 1) ≡ ltb (length list) ((room - 1) * 3)
-  few-same h =
-      let u = usable-is 255 (length lent) in
-      same-test (length lent) (room - 1) (length list) ((room - 1) * 3) (λ p. omega (arith, u .there)) (λ p. let q = u .enough (room - 1) (omega arith) p in omega arith)
+  few-same h = missing-same 255 (length lent) (room - 1) (length list) (omega arith) l
 
   abbrev RoomSame : Type 0
   RoomSame = refusal (check 7 (outside 1 (limits .blocks) room) ∷ tooFew ((room - 1) * 3) cuts ∷ check 8 (ltb (length lent) (room - 1)) ∷ []) ≡ refusal (roomChecks room cuts list)

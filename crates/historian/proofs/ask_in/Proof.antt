@@ -9,7 +9,7 @@ use Rattle.historian.proofs.ask_in.Tie as tie
 use Rattle.historian.proofs.ask_in.Reads as reads
 use Rattle.historian.proofs.ask_in.Lts as lts
 use Rattle.asking.proofs.question.Reads as question-reads
-use Rattle.historian.proofs.put_values.Reads as put-values-reads
+use Rattle.values.proofs.put_values.Reads as put-values-reads
 use Rattle.counts.proofs.usable_places.Reads as usable-places-reads
 
 usable-places-requires : tie.Need-usable-places-requires

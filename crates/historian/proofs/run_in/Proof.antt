@@ -12,7 +12,7 @@ use Rattle.historian.proofs.run_in.Lts as lts
 use Rattle.counts.proofs.cut_values.Reads as cut-values-reads
 use Rattle.counts.proofs.row_values.Reads as row-values-reads
 use Rattle.historian.proofs.answer_number.Reads as answer-number-reads
-use Rattle.historian.proofs.put_values.Reads as put-values-reads
+use Rattle.values.proofs.put_values.Reads as put-values-reads
 use Rattle.counts.proofs.usable_places.Reads as usable-places-reads
 use Rattle.running.proofs.run.Reads as run-reads
 

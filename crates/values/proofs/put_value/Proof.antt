@@ -1,12 +1,12 @@
 use Prim.Native.Nat.{_*_}
 use native.Mathlib.Omega.{arith}
 use lib.ListN.{length-set}
-use Rattle.historian.proofs.ValueLaws.{put-four}
+use Rattle.values.proofs.ValueLaws.{put-four}
 use borrow.Author.Needs.{needs}
-use Rattle.historian.proofs.put_value.Statement.{statement}
-use Rattle.historian.proofs.put_value.Tie as tie
-use Rattle.historian.proofs.put_value.Reads as reads
-use Rattle.historian.proofs.put_value.Lts as lts
+use Rattle.values.proofs.put_value.Statement.{statement}
+use Rattle.values.proofs.put_value.Tie as tie
+use Rattle.values.proofs.put_value.Reads as reads
+use Rattle.values.proofs.put_value.Lts as lts
 
 mul-at : tie.Need-mul-at
 mul-at c = search needs
