@@ -1,2 +1,3 @@
 pub mod RunEntryLaws
 pub mod AskEntryLaws
+pub mod ReplayEntryLaws

@@ -1,0 +1,90 @@
+use Prim.Native.Nat.{_*_}
+use native.Mathlib.Omega.{arith}
+use mathlib.Core.Path.{refl, sym}
+use lib.Seq.{length-take-le}
+use Rattle.counts.proofs.UsableLaws.{at-most, all-there}
+use Rattle.historian.proofs.ReplayEntryLaws.{got-fits, rows-few, row-few, rows-go, replayed-in}
+use borrow.Author.Needs.{needs}
+use Rattle.historian.proofs.replay_in.Statement.{statement}
+use Rattle.historian.proofs.replay_in.Tie as tie
+use Rattle.historian.proofs.replay_in.Reads as reads
+use Rattle.historian.proofs.replay_in.Lts as lts
+use Rattle.counts.proofs.usable_places.Reads as usable-places-reads
+use Rattle.replaying.proofs.replay.Reads as replay-reads
+use Rattle.historian.proofs.replay_number.Reads as replay-number-reads
+use Rattle.historian.proofs.replayed_values.Reads as replayed-values-reads
+use Rattle.values.proofs.get_values.Reads as get-values-reads
+use Rattle.values.proofs.put_signed.Reads as put-signed-reads
+
+add-usable-places : tie.Need-add-usable-places
+add-usable-places c = search needs
+
+usable-places-requires : tie.Need-usable-places-requires
+usable-places-requires c κs = search needs
+
+usable-places-requires-2 : tie.Need-usable-places-requires-2
+usable-places-requires-2 c κs = search needs
+
+mul-m : tie.Need-mul-m
+mul-m c = let h = at-most _ _ (c .usable-places2 .ensures) in search (needs, h)
+
+get-values-requires : tie.Need-get-values-requires
+get-values-requires c κs = (omega (arith, at-most _ _ (c .before .before .usable-places .ensures)), omega (arith, all-there _ _ (c .before .before .usable-places .ensures)), omega (arith, c .before .before .before .before .before .before .before .before .pre .0, at-most _ _ (c .before .before .usable-places .ensures)))
+
+slice-reshare-prefix-replay : tie.Need-slice-reshare-prefix-replay
+slice-reshare-prefix-replay c = let g = c .before .before .before .before .before .before .before .before .before .before .before .args in got-fits (g .log .now) (g .steps .now) (c .before .before .before .before .before .usable-places .result) (c .before .before .get-values .ensures) (omega (arith, c .before .before .before .before .before .before .before .before .before .before .before .pre .0, at-most _ _ (c .before .before .before .before .before .usable-places .ensures)))
+
+slice-aggregate-replay : tie.Need-slice-aggregate-replay
+slice-aggregate-replay c = let g = c .before .before .before .before .before .before .before .before .before .before .before .before .args in sym (length-take-le (c .before .before .before .before .before .before .usable-places .result) _ (got-fits (g .log .now) (g .steps .now) (c .before .before .before .before .before .before .usable-places .result) (c .before .before .before .get-values .ensures) (omega (arith, c .before .before .before .before .before .before .before .before .before .before .before .before .pre .0, at-most _ _ (c .before .before .before .before .before .before .usable-places .ensures)))))
+
+slice-relend-prefix-replay : tie.Need-slice-relend-prefix-replay
+slice-relend-prefix-replay c = omega (arith, c .before .before .before .before .before .before .before .before .before .before .before .before .pre .1, at-most _ _ (c .before .before .before .before .before .usable-places2 .ensures))
+
+slice-aggregate-replay-2 : tie.Need-slice-aggregate-replay-2
+slice-aggregate-replay-2 c = sym (length-take-le (c .before .before .before .before .before .before .usable-places2 .result * 3) (c .before .before .before .before .before .before .before .before .before .before .before .before .before .args .list .now) (omega (arith, c .before .before .before .before .before .before .before .before .before .before .before .before .before .pre .1, at-most _ _ (c .before .before .before .before .before .before .usable-places2 .ensures))))
+
+replay-requires : tie.Need-replay-requires
+replay-requires c κs = search needs
+
+replayed-values-requires : tie.Need-replayed-values-requires
+replayed-values-requires c κs = let g = c .before .before .before .before .before .before .before .before .before .before .before .before .before .before .before .before .args in rows-few (g .log .now) (g .steps .now) (c .before .before .before .before .before .before .before .before .before .before .usable-places .result) (c .before .before .before .before .before .before .before .get-values .ensures) (g .model .now) (g .sheet .now) (g .rows .now) (g .list .now) (c .before .before .before .before .before .before .before .before .before .usable-places2 .result) (c .before .before .before .before .before .before .before .before .before .before .before .before .before .before .before .before .pre .1) (c .before .before .before .before .before .before .before .before .before .usable-places2 .ensures) (c .before .before .replay .ensures)
+
+put-signed-requires : tie.Need-put-signed-requires
+put-signed-requires c κs = let g = c .before .before .before .before .before .before .before .before .before .before .before .before .before .before .before .before .before .before .args in rows-go (g .log .now) (g .steps .now) (c .before .before .before .before .before .before .before .before .before .before .before .before .usable-places .result) (c .before .before .before .before .before .before .before .before .before .get-values .ensures) (g .model .now) (g .sheet .now) (g .rows .now) (g .list .now) (c .before .before .before .before .before .before .before .before .before .before .before .usable-places2 .result) (c .before .before .before .before .before .before .before .before .before .before .before .before .before .before .before .before .before .before .pre .1) (c .before .before .before .before .before .before .before .before .before .before .before .usable-places2 .ensures) (c .before .before .before .before .replay .ensures) (c .before .replayed-values .ensures)
+
+replay-number-requires : tie.Need-replay-number-requires
+replay-number-requires c κs = let g = c .before .before .before .before .before .before .before .before .before .before .before .before .before .before .before .before .before .before .before .before .before .args in (rows-few (g .log .now) (g .steps .now) (c .before .before .before .before .before .before .before .before .before .before .before .before .before .before .before .usable-places .result) (c .before .before .before .before .before .before .before .before .before .before .before .before .get-values .ensures) (g .model .now) (g .sheet .now) (g .rows .now) (g .list .now) (c .before .before .before .before .before .before .before .before .before .before .before .before .before .before .usable-places2 .result) (c .before .before .before .before .before .before .before .before .before .before .before .before .before .before .before .before .before .before .before .before .before .pre .1) (c .before .before .before .before .before .before .before .before .before .before .before .before .before .before .usable-places2 .ensures) (c .before .before .before .before .before .before .before .replay .ensures), row-few (g .log .now) (g .steps .now) (c .before .before .before .before .before .before .before .before .before .before .before .before .before .before .before .usable-places .result) (c .before .before .before .before .before .before .before .before .before .before .before .before .get-values .ensures) (g .model .now) (g .sheet .now) (g .rows .now) (g .list .now) (c .before .before .before .before .before .before .before .before .before .before .before .before .before .before .usable-places2 .result) (c .before .before .before .before .before .before .before .before .before .before .before .before .before .before .before .before .before .before .before .before .before .pre .1) (c .before .before .before .before .before .before .before .before .before .before .before .before .before .before .usable-places2 .ensures) (c .before .before .before .before .before .before .before .replay .ensures) (omega (arith, at-most _ _ (c .before .before .before .before .before .before .before .before .before .before .before .before .before .before .before .usable-places .ensures))))
+
+same-length : tie.Need-same-length
+same-length c = search needs
+
+same-length-2 : tie.Need-same-length-2
+same-length-2 c = search needs
+
+same-length-3 : tie.Need-same-length-3
+same-length-3 c = search needs
+
+returns : tie.Need-returns
+returns c = let g = c .before .before .before .before .before .before .before .before .before .before .before .before .before .before .before .before .before .before .before .before .before .before .args in replayed-in (g .log .now) (g .steps .now) (c .before .before .before .before .before .before .before .before .before .before .before .before .before .before .before .before .usable-places .result) (c .before .before .before .before .before .before .before .before .before .before .before .before .before .get-values .ensures) (g .model .now) (g .sheet .now) (g .rows .now) (g .list .now) (c .before .before .before .before .before .before .before .before .before .before .before .before .before .before .before .usable-places2 .result) (c .before .before .before .before .before .before .before .before .before .before .before .before .before .before .before .before .before .before .before .before .before .before .pre .1) (c .before .before .before .before .before .before .before .before .before .before .before .before .before .before .before .usable-places2 .ensures) (c .before .before .before .before .before .before .before .before .replay .ensures) _ (c .before .before .before .before .before .before .before .before .before .before .before .before .before .before .before .before .usable-places .ensures) refl (c .before .before .before .before .before .replayed-values .ensures) (c .replay-number .ensures) (c .before .before .before .put-signed .ensures)
+
+pub replay-in-spec : {M : Type 1} → statement M
+replay-in-spec =
+    tie.close
+    (tie.spec
+    add-usable-places
+    usable-places-requires
+    usable-places-requires-2
+    mul-m
+    get-values-requires
+    slice-reshare-prefix-replay
+    slice-aggregate-replay
+    slice-relend-prefix-replay
+    slice-aggregate-replay-2
+    replay-requires
+    replayed-values-requires
+    put-signed-requires
+    replay-number-requires
+    same-length
+    same-length-2
+    same-length-3
+    returns)
