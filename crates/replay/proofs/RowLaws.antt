@@ -1,8 +1,6 @@
 -- The figures of a row: when they are a dash, and what they are where they are none.
 use Prim.Native.Nat.{ℕ, zero, suc, _+_, _-_, _*_, _≤_, _<_}
 use native.Mathlib.Omega.{arith}
-use native.Mathlib.Decide.{decLt}
-use native.Mathlib.Nat.{suc-mul, mul-le-mul, le-refl}
 use mathlib.Core.Path.{_≡_, refl, sym, ap, _∙_, subst⁻¹}
 use mathlib.Core.Logic.{⊎-elim}
 use mathlib.Core.Bool.{Bool, true, false, not, _&&_, false≢true}
@@ -10,7 +8,6 @@ use mathlib.Core.List.{List, [], _∷_, _++_}
 use mathlib.Core.Option.{Option, none, some, Option·map, Option·getD}
 use lib.IntN.{ℤ, pos, negℤ, natAbs, _-ℤ_}
 use lib.ListN.{length, getD, List·getD-append}
-use lib.Seq.{getD-append-add}
 use lib.Signed.{_≤ℤ_}
 use borrow.Author.Tests.{not-true, not-false}
 use Rattle.task.specs.Loops.{all, over}
@@ -18,7 +15,7 @@ use Rattle.task.specs.Sizes.{limits}
 use Rattle.task.specs.Task.{Task, Tenths, Accepted, costOf}
 use Rattle.task.proofs.LoopLaws.{and-left, and-right, and-both, true-or-false, all-at, all-fails, all-false, all-suc}
 use Rattle.fields.specs.Judging.{pick, each}
-use Rattle.fields.proofs.PlaceLaws.{each-length}
+use Rattle.fields.proofs.PlaceLaws.{each-length, each-item}
 use Rattle.blocks.specs.declared.Cut.{Cut}
 use Rattle.blocks.specs.Blocks.{accepted}
 use Rattle.distances.specs.Distances.{NoMore, number, noWay, estimate}
@@ -234,25 +231,6 @@ module _ (t : Task) (v : Accepted t) (cs : List Cut) (ok : accepted t cs ≡ tru
 
 -- ---- the list of rows
 
--- entry k of turn i stands at place i c + k
-module _ {A : Type 0} (f : ℕ → List A) (c : ℕ) (same : (i : ℕ) → length (f i) ≡ c) (d : A) where
-  turn-at : (n i k : ℕ) → i < n → k < c → getD (each n f) (i * c + k) d ≡ getD (f i) k d
-  unfolding each
-  turn-at zero i k h l = absurd (omega arith)
-  turn-at (suc n) i k h l = split (λ p. turn-at n i k p l) (decLt i n)
-    where
-      long : length (each n f) ≡ n * c
-      long = each-length f c same n
-
-      inside : i < n → i * c + k < length (each n f)
-      inside p = omega (arith, long, suc-mul i c, mul-le-mul {n₁ = suc i} {m₁ = c} {n₂ = n} {m₂ = c} p (le-refl c))
-
-      split : (i < n → getD (each n f) (i * c + k) d ≡ getD (f i) k d) → Dec (i < n) → getD (each n f ++ f n) (i * c + k) d ≡ getD (f i) k d
-      split ih (yes p) = List·getD-append (each n f) (f n) d (i * c + k) (inside p) ∙ ih p
-      split ih (no p) =
-          let e : i ≡ n = omega arith in
-          rw e (ap (λ (x : ℕ). getD (each n f ++ f n) (x + k) d) (sym long) ∙ getD-append-add (each n f) (f n) k d)
-
 module _ (t : Task) (cs : List Cut) (log : List ℕ) where
   three : (i : ℕ) → length (rowValues t cs log i) ≡ 3
   unfolding rowValues
@@ -265,7 +243,7 @@ module _ (t : Task) (cs : List Cut) (log : List ℕ) where
   -- value k of row i
   pub value-at : (i k : ℕ) → i < length log → k < 3 → getD (rowList t cs log) (i * 3 + k) (pos 0) ≡ getD (rowValues t cs log i) k (pos 0)
   unfolding rowList
-  value-at i k h l = turn-at (rowValues t cs log) 3 three (pos 0) (length log) i k h l
+  value-at i k h l = each-item (pos 0) (rowValues t cs log) 3 three (length log) i k h l
 
   -- the same in a list that was written over
   pub written-at : (rows : List ℤ) (i k : ℕ) → i < length log → k < 3
