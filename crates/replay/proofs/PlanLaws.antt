@@ -1,20 +1,18 @@
 -- A log that ends in a goal state is a plan: none of its rows has a dash, and its detours add up to what it costs above the start's estimate.
-use Prim.Native.Nat.{ℕ, zero, suc, _+_, _-_, _≤_, _<_}
+use Prim.Native.Nat.{ℕ, zero, suc, _+_, _≤_, _<_}
 use native.Mathlib.Omega.{arith}
-use mathlib.Core.Path.{_≡_, refl, sym, ap, _∙_}
-use mathlib.Core.Bool.{Bool, true, false, not}
+use mathlib.Core.Path.{_≡_, sym, ap, _∙_}
+use mathlib.Core.Bool.{true, false, not}
 use mathlib.Core.List.{List, [], _∷_, map}
-use mathlib.Core.Option.{Option, none, some, Option·getD}
+use mathlib.Core.Option.{Option, some, Option·getD}
 use lib.IntN.{ℤ, pos, _+ℤ_, _-ℤ_, +ℤ-idr, +ℤ-invr}
 use lib.ListN.{length, drop, drop-of-length-le}
 use lib.Seq.{drop-cons}
-use lib.Signed.{_≤ℤ_}
 use borrow.Author.Tests.{lt-ltb}
 use Rattle.task.specs.declared.Step.{Step}
-use Rattle.task.specs.Loops.{all}
 use Rattle.task.specs.Task.{Task, Tenths, Accepted, step, start, isGoal, reaches, costs, IsPlan}
 use Rattle.task.proofs.LoopLaws.{and-both, all-at, all-intro}
-use Rattle.task.proofs.TaskLaws.{Taken, first-step}
+use Rattle.task.proofs.TaskLaws.{first-step}
 use Rattle.blocks.specs.declared.Cut.{Cut}
 use Rattle.blocks.specs.Blocks.{accepted}
 use Rattle.distances.specs.Distances.{NoMore, number, estimate}
@@ -22,8 +20,8 @@ use Rattle.distances.proofs.EstimateLaws.{estimate-below}
 use Rattle.replay.specs.Replay.{stepAt, before, badAt, badRow, paid, hasWay, far, onWay, dashed, detour, figure}
 use Rattle.replay.specs.Sums.{sumFrom}
 use Rattle.replay.proofs.SignedLaws.{not-below, sum-zero}
-use Rattle.replay.proofs.LogLaws.{GoodRow, before-state, good-all, good-row, bad-none}
-use Rattle.replay.proofs.RowLaws.{NoDash, tenthsAt, ways-back, detours-add, figure-is}
+use Rattle.replay.proofs.LogLaws.{before-state, good-all, good-row, bad-none}
+use Rattle.replay.proofs.RowLaws.{tenthsAt, ways-back, detours-add, figure-is}
 
 none-left : (o : Option Tenths) → NoMore o (some 0) → o ≡ some 0
 none-left (some a) (number h) = let e : a ≡ 0 = omega arith in ap some e

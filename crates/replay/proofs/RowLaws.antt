@@ -4,7 +4,7 @@ use native.Mathlib.Omega.{arith}
 use mathlib.Core.Path.{_≡_, refl, sym, ap, _∙_, subst⁻¹}
 use mathlib.Core.Logic.{⊎-elim}
 use mathlib.Core.Bool.{Bool, true, false, not, _&&_, false≢true}
-use mathlib.Core.List.{List, [], _∷_, _++_}
+use mathlib.Core.List.{List}
 use mathlib.Core.Option.{Option, none, some, Option·map, Option·getD}
 use lib.IntN.{ℤ, pos, negℤ, natAbs, _-ℤ_}
 use lib.ListN.{length, getD, List·getD-append}
@@ -12,18 +12,17 @@ use lib.Signed.{_≤ℤ_}
 use borrow.Author.Tests.{not-true, not-false}
 use Rattle.task.specs.Loops.{all, over}
 use Rattle.task.specs.Sizes.{limits}
-use Rattle.task.specs.Task.{Task, Tenths, Accepted, costOf}
-use Rattle.task.proofs.LoopLaws.{and-left, and-right, and-both, true-or-false, all-at, all-fails, all-false, all-suc}
-use Rattle.fields.specs.Judging.{pick, each}
+use Rattle.task.specs.Task.{Task, Tenths, Accepted}
+use Rattle.task.proofs.LoopLaws.{and-left, and-right, and-both, true-or-false, all-at, all-fails, all-false}
 use Rattle.fields.proofs.PlaceLaws.{each-length, each-item}
 use Rattle.blocks.specs.declared.Cut.{Cut}
 use Rattle.blocks.specs.Blocks.{accepted}
-use Rattle.distances.specs.Distances.{NoMore, number, noWay, estimate}
+use Rattle.distances.specs.Distances.{NoMore, number, noWay}
 use Rattle.distances.proofs.EstimateLaws.{estimate-consistent, estimate-bound}
 use Rattle.replay.specs.Replay.{stepAt, before, badRow, paid, hasWay, far, onWay, dashed, difference, won, detour, dash, figure, rowValues, rowList}
 use Rattle.replay.specs.Sums.{sumFrom}
 use Rattle.replay.proofs.SignedLaws.{left-over, lowest, highest, size-most, sum-steps, sum-ext, sum-less}
-use Rattle.replay.proofs.LogLaws.{GoodRow, before-state, good-all, good-row}
+use Rattle.replay.proofs.LogLaws.{before-state, good-all, good-row}
 
 -- the largest distance
 abbrev pub largest : Tenths

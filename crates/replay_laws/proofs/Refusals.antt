@@ -18,7 +18,6 @@ use Rattle.fields.proofs.JudgingLaws.{neither, passed, refusal-append}
 use Rattle.sheets.specs.Holding.{taskOn}
 use Rattle.cut_sheets.specs.CutSheet.{cutSheetChecks, cutsOf}
 use Rattle.cut_laws.proofs.Refusals.{rebuildNumbers, sheets-numbers}
-use Rattle.replay.specs.declared.Replayed.{Replayed}
 use Rattle.replay.specs.declared.Replayed.the-variants.{Rows, Stopped, Refused}
 use Rattle.replay.specs.Replay.{badRow, rowList, logChecks, replayChecks, number, refused, Outcome, outcome, replaying}
 

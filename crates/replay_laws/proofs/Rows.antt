@@ -3,7 +3,7 @@
 use Prim.Native.Nat.{ℕ, zero, suc, _+_, _*_, _≤_, _<_}
 use native.Mathlib.Omega.{arith}
 use native.Mathlib.Nat.{add-zero}
-use mathlib.Core.Path.{_≡_, refl, sym, ap, _∙_, subst⁻¹}
+use mathlib.Core.Path.{_≡_, sym, ap, _∙_, subst⁻¹}
 use mathlib.Core.Logic.{_↔_, ⊎-elim}
 use mathlib.Core.Bool.{true, false, false≢true}
 use mathlib.Core.List.{List}
@@ -15,7 +15,7 @@ use lib.Seq.{drop-append-seam}
 use lib.Signed.{_≤ℤ_}
 use Rattle.task.specs.Loops.{over}
 use Rattle.task.specs.Sizes.{limits}
-use Rattle.task.specs.Task.{Task, Tenths, Accepted, costOf, start, isGoal, costs, IsPlan}
+use Rattle.task.specs.Task.{Task, Tenths, Accepted, costOf, start, isGoal, costs}
 use Rattle.task.proofs.LoopLaws.{true-or-false}
 use Rattle.fields.specs.Judging.{refusal}
 use Rattle.blocks.specs.declared.Cut.{Cut}
@@ -24,7 +24,6 @@ use Rattle.distances.specs.Distances.{estimate}
 use Rattle.sheets.specs.Holding.{taskOn}
 use Rattle.cut_sheets.specs.CutSheet.{cutSheetChecks, cutsOf}
 use Rattle.question_laws.proofs.Estimates.{model-accepted, cuts-accepted, few}
-use Rattle.replay.specs.declared.Replayed.{Replayed}
 use Rattle.replay.specs.declared.Replayed.the-variants.{Rows}
 use Rattle.replay.specs.Replay.{stepAt, before, badRow, paid, far, dashed, won, detour, dash, figure, rowValues, rowList}
 use Rattle.replay.specs.Replay.{replayChecks, number, rowCount, Outcome, outcome, Replays}
