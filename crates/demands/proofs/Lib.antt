@@ -11,3 +11,4 @@ pub mod Untouched
 pub mod RunBytes
 pub mod Printed
 pub mod FirstBytes
+pub mod Replays

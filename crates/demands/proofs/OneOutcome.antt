@@ -3,6 +3,7 @@
 use Prim.Native.Nat.{ℕ, _*_}
 use mathlib.Core.Path.{_≡_, sym, ap, _∙_}
 use mathlib.Core.List.{List}
+use lib.IntN.{ℤ}
 use lib.ListN.{take}
 use Rattle.reading.specs.declared.ModelRead.{ModelRead}
 use Rattle.reading.specs.Reading as reading
@@ -16,9 +17,12 @@ use Rattle.cut_writing.specs.CutWriting as cutWriting
 use Rattle.cut_laws.proofs.FirstPlaces as cutTables
 use Rattle.asking.specs.declared.Asked.{Asked}
 use Rattle.asking.specs.Question as question
+use Rattle.replay.specs.declared.Replayed.{Replayed}
+use Rattle.replay.specs.Replay as replay
 use Rattle.running.specs.declared.Answer.{Answer}
 use Rattle.running.specs.Running as running
 use Rattle.historian.specs.Entries as entries
+use Rattle.historian.specs.ReplayEntry as replayEntry
 
 -- ---- the library
 
@@ -80,6 +84,15 @@ run-one sheet room cuts rows p q =
     let e = p ∙ sym q in
     (ap (λ (o : running.Outcome). o .answer) e, ap (λ (o : running.Outcome). o .cuts) e, ap (λ (o : running.Outcome). o .rows) e)
 
+-- replay
+pub replay-one : (model sheet log : List ℕ) (rows : List ℤ) {r r′ : Replayed} {l l′ : List ℤ}
+    → replay.Replays model sheet log rows r l
+    → replay.Replays model sheet log rows r′ l′
+    → (r ≡ r′) × (l ≡ l′)
+replay-one model sheet log rows p q =
+    let e = p ∙ sym q in
+    (ap (λ (o : replay.Outcome). o .answer) e, ap (λ (o : replay.Outcome). o .rows) e)
+
 -- ---- the historian
 
 -- elhavir_run
@@ -99,6 +112,15 @@ pub elhavir-question-one : (model sheet states estimates : List ℕ) {r r′ : �
 elhavir-question-one model sheet states estimates p q =
     let e = p ∙ sym q in
     (ap (λ (o : entries.AskOutcome). o .answer) e, ap (λ (o : entries.AskOutcome). o .estimates) e)
+
+-- elhavir_replay
+pub elhavir-replay-one : (model sheet log rows : List ℕ) {r r′ : ℕ} {l l′ : List ℕ}
+    → replayEntry.EntryReplays model sheet log rows r l
+    → replayEntry.EntryReplays model sheet log rows r′ l′
+    → (r ≡ r′) × (l ≡ l′)
+elhavir-replay-one model sheet log rows p q =
+    let e = p ∙ sym q in
+    (ap (λ (o : replayEntry.ReplayOutcome). o .answer) e, ap (λ (o : replayEntry.ReplayOutcome). o .rows) e)
 
 -- ---- 01, "Refusal numbers": "Input places beyond a writer's counts are not read." Tables that agree on the first places, as many as the counts say, leave the
 -- same one outcome, refusals too. They agree when `take` gives the same of both, so that one ends before these places where the other does.

@@ -1,9 +1,11 @@
 -- Which of 01's numbers each list of checks can give. 0 stands for no refusal.
-use Prim.Native.Nat.{ℕ, _<_}
+use Prim.Native.Nat.{ℕ, _/_, _<_}
 use mathlib.Core.Path.{_≡_, refl}
 use mathlib.Core.Bool.{true}
 use mathlib.Core.List.{List, [], _∷_}
 use lib.Dec.{ltb}
+use lib.IntN.{ℤ}
+use lib.ListN.{length}
 use borrow.Author.Tests.{ltb-true}
 use Rattle.fields.specs.Judging.{refusal}
 use Rattle.fields.proofs.ExactLaws.{has, Numbers, numbers-append, gives}
@@ -14,13 +16,17 @@ use Rattle.cut_sheets.specs.CutSheet.{cutSheetChecks, rebuildChecks, writeCutsC
 use Rattle.cut_laws.proofs.Refusals as cut
 use Rattle.asking.specs.Question.{questionChecks}
 use Rattle.question_laws.proofs.Refusals as asked
+use Rattle.values.specs.Values.{valuesOn}
+use Rattle.replay.specs.Replay.{replayChecks}
+use Rattle.replay_laws.proofs.Refusals as replayed
 use Rattle.run.specs.declared.Row.{Row}
 use Rattle.running.specs.Running.{runChecks}
 use Rattle.run_laws.proofs.Refusals as ran
 use Rattle.rows.specs.Rows.{rowChecks}
 use Rattle.historian.specs.Entries.{fewPlaces, entryChecks, askChecks}
+use Rattle.historian.specs.ReplayEntry.{replayEntryChecks}
 
--- a sheet read or written; cuts written; a cut sheet read; a question; a run
+-- a sheet read or written; cuts written; a cut sheet read; a question; a replay; a run
 abbrev pub sheetNumbers : List ℕ
 sheetNumbers = 0 ∷ 1 ∷ 2 ∷ 3 ∷ 4 ∷ 5 ∷ 6 ∷ 8 ∷ []
 
@@ -32,6 +38,9 @@ rebuildNumbers = 0 ∷ 1 ∷ 2 ∷ 3 ∷ 4 ∷ 5 ∷ 6 ∷ 8 ∷ 9 ∷ 10 ∷ []
 
 abbrev pub questionNumbers : List ℕ
 questionNumbers = 0 ∷ 1 ∷ 2 ∷ 3 ∷ 4 ∷ 5 ∷ 6 ∷ 8 ∷ 9 ∷ 10 ∷ 11 ∷ []
+
+abbrev pub replayNumbers : List ℕ
+replayNumbers = 0 ∷ 1 ∷ 2 ∷ 3 ∷ 4 ∷ 5 ∷ 6 ∷ 8 ∷ 9 ∷ 10 ∷ 14 ∷ 15 ∷ []
 
 abbrev pub runNumbers : List ℕ
 runNumbers = 0 ∷ 1 ∷ 2 ∷ 3 ∷ 4 ∷ 5 ∷ 6 ∷ 7 ∷ 8 ∷ []
@@ -59,6 +68,20 @@ module _ (model s states est : List ℕ) where
 
   pub ask-gives : has questionNumbers (refusal (askChecks model s states est)) ≡ true
   ask-gives = gives (has questionNumbers) asked.numbers refl (askChecks model s states est) ask-numbers
+
+pub replay-gives : (model s log : List ℕ) (rows : List ℤ) → has replayNumbers (refusal (replayChecks model s log rows)) ≡ true
+replay-gives model s log rows = gives (has replayNumbers) replayed.numbers refl (replayChecks model s log rows) (replayed.replay-numbers model s log rows)
+
+module _ (model s log rows : List ℕ) where
+  pub replay-entry-numbers : Numbers (has replayed.numbers) (replayEntryChecks model s log rows)
+  unfolding replayEntryChecks fewPlaces
+  replay-entry-numbers = replayed.checks-numbers model s (valuesOn log) (ltb (length rows / 12) (length (valuesOn log)))
+
+  pub replay-entry-gives : has replayNumbers (refusal (replayEntryChecks model s log rows)) ≡ true
+  replay-entry-gives = gives (has replayNumbers) replayed.numbers refl (replayEntryChecks model s log rows) replay-entry-numbers
+
+  pub replay-entry-low : refusal (replayEntryChecks model s log rows) < 16
+  replay-entry-low = ltb-true _ 16 (gives (λ n. ltb n 16) replayed.numbers refl (replayEntryChecks model s log rows) replay-entry-numbers)
 
 pub run-gives : (s : List ℕ) (room : ℕ) (cuts rows : List ℕ) → has runNumbers (refusal (runChecks s room cuts rows)) ≡ true
 run-gives s room cuts rows = gives (has runNumbers) ran.numbers refl (runChecks s room cuts rows) (ran.run-numbers s room cuts rows)

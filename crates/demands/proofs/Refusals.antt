@@ -6,15 +6,17 @@
 -- "Nothing reads or writes outside what was lent, and every call ends" is no theorem here: it is part of what it is to meet a contract, which is a triple
 -- of total correctness over what the types lend and what the `requires` asks, beside any frame (the kit's law `adequate`). No public function has a
 -- `requires`, so it holds of every call.
-use Prim.Native.Nat.{ℕ, _+_, _^_, _≤_}
+use Prim.Native.Nat.{ℕ, _+_, _*_, _/_, _%_, _^_, _≤_, _<_}
 use native.Mathlib.Omega.{arith}
 use mathlib.Core.Path.{_≡_, refl, sym, ap, _∙_, subst}
-use mathlib.Core.Bool.{Bool, true}
+use mathlib.Core.Bool.{Bool, true, false}
 use mathlib.Core.List.{List}
-use lib.Dec.{ltb}
+use lib.Dec.{eqb, ltb}
+use lib.IntN.{ℤ}
 use lib.ListN.{length}
-use borrow.Author.Tests.{eq-eqb, ne-eqb, lt-ltb, le-ltb}
+use borrow.Author.Tests.{eqb-true, eq-eqb, ne-eqb, lt-ltb, le-ltb}
 use Rattle.task.specs.Loops.{over}
+use Rattle.task.specs.Sizes.{limits}
 use Rattle.task.specs.Task.{Task}
 use Rattle.fields.specs.Judging.{pick, refusal}
 use Rattle.fields.specs.Packing.{sheetOf}
@@ -44,6 +46,13 @@ use Rattle.asking.specs.declared.Asked.{Asked}
 use Rattle.asking.specs.declared.Asked.the-variants as answered
 use Rattle.asking.specs.Question as question
 use Rattle.asking.specs.Question.{statesIn, estimatesOf}
+use Rattle.values.specs.Values.{bytesOf, valuesOn, signedBytes}
+use Rattle.replay.specs.declared.Replayed.{Replayed}
+use Rattle.replay.specs.declared.Replayed.the-variants as replayed
+use Rattle.replay.specs.Replay as replay
+use Rattle.replay.specs.Replay.{badRow, rowList}
+use Rattle.replay.proofs.LogLaws.{bad-first}
+use Rattle.replay_laws.proofs.Refusals as replays
 use Rattle.run.specs.declared.Row.{Row}
 use Rattle.run.specs.Run as run
 use Rattle.run.specs.Run.{plan, noPlan, «open»}
@@ -54,9 +63,11 @@ use Rattle.running.specs.Running as running
 use Rattle.running.specs.Running.{told}
 use Rattle.rows.specs.Rows as rows
 use Rattle.rows.specs.Rows.{rowChecks, rowRun, RowRuns}
-use Rattle.values.specs.Values.{bytesOf}
 use Rattle.historian.specs.Entries.{answerNumber, entryChecks, RunOutcome, runOutcome, madeBytes, runEntry, askChecks, AskOutcome, askOutcome, askEntry, EntryRuns, EntryAsks}
+use Rattle.historian.specs.Entries.{fewPlaces}
+use Rattle.historian.specs.ReplayEntry.{replayNumber, replayEntryChecks, ReplayOutcome, replayOutcome, replayEntry, EntryReplays}
 use Rattle.demands.proofs.RefusalNumbers.{sheetNumbers, cutNumbers, rebuildNumbers, questionNumbers, read-gives, write-gives, rebuild-gives, write-cuts-gives, question-gives, ask-numbers, ask-gives, runNumbers, run-gives, row-numbers, row-run-gives, entry-numbers, entry-gives, entry-low}
+use Rattle.demands.proofs.RefusalNumbers.{replayNumbers, replay-gives, replay-entry-numbers, replay-entry-gives, replay-entry-low}
 
 -- ---- read_model
 module _ (s frame costs marks : List ℕ) {r : ModelRead} {f c m : List ℕ} (done : reading.ReadsModel s frame costs marks r f c m) where
@@ -105,6 +116,16 @@ module _ (model s states est : List ℕ) {r : Asked} {l : List ℕ} (done : ques
 
   pub question-numbers : has questionNumbers (question.number r) ≡ true
   question-numbers = ap (has questionNumbers) (question-judged .told) ∙ question-gives model s states est
+
+-- ---- replay
+module _ (model s log : List ℕ) (rs : List ℤ) {r : Replayed} {l : List ℤ} (done : replay.Replays model s log rs r l) where
+  pub replay-judged : Judged (λ (o : replay.Outcome). replay.number (o .answer)) (λ n. replay.outcome (replay.refused (taskOn model) log n) rs)
+      (replay.replayChecks model s log rs)
+      (replay.outcome (replayed.Rows (length log)) (over (rowList (taskOn model) (cutsOf s) log) rs)) (replay.outcome r l)
+  replay-judged = subst (Judged _ _ _ _) (sym done) (replays.replayer model s log rs)
+
+  pub replay-numbers : has replayNumbers (replay.number r) ≡ true
+  replay-numbers = ap (has replayNumbers) (replay-judged .told) ∙ replay-gives model s log rs
 
 -- ---- run
 module _ (s : List ℕ) (room : ℕ) (cuts rs : List ℕ) {r : Answer} {c l : List ℕ} (done : running.Runs s room cuts rs r c l) where
@@ -186,3 +207,61 @@ module _ (model s states est : List ℕ) where
 
     pub elhavir-question-numbers : has questionNumbers r ≡ true
     elhavir-question-numbers = ap (has questionNumbers) (elhavir-question-judged .told) ∙ ask-gives model s states est
+
+-- ---- elhavir_replay: an answer of kind 0, below 2^56, has a refusal's number as its value, and 14 its row in the field of the steps; one of another kind
+-- refuses nothing
+abbrev pub replayRefusal : ℕ → ℕ
+replayRefusal r = pick (ltb r (2 ^ 56)) (r % 2 ^ 32) 0
+
+pub refusal-low : (r : ℕ) → r < 2 ^ 56 → replayRefusal r ≡ r % 2 ^ 32
+refusal-low r h = ap (λ (b : Bool). pick b (r % 2 ^ 32) 0) (lt-ltb r (2 ^ 56) h)
+
+pub refusal-none : (r : ℕ) → 2 ^ 56 ≤ r → replayRefusal r ≡ 0
+refusal-none r h = ap (λ (b : Bool). pick b (r % 2 ^ 32) 0) (le-ltb r (2 ^ 56) h)
+
+module _ (model s log rs : List ℕ) where
+  abbrev steps : List ℕ
+  steps = valuesOn log
+
+  abbrev Q : ℕ
+  Q = refusal (replayEntryChecks model s log rs)
+
+  -- the row of 14 is one of a log that is not too long
+  pub row-bad : Q ≡ 14 → badRow (taskOn model) steps ≡ 0 → ⊥
+  unfolding replayEntryChecks fewPlaces
+  row-bad = replays.stopped-bad model s steps (ltb (length rs / 12) (length steps))
+
+  pub row-few : Q ≡ 14 → badRow (taskOn model) steps ≤ limits .log
+  unfolding replayEntryChecks fewPlaces
+  row-few e =
+      let f = bad-first (taskOn model) steps (row-bad e) in
+      omega (arith, f .counted, f .there, replays.stopped-short model s steps (ltb (length rs / 12) (length steps)) e)
+
+  told-back : replayRefusal (replayNumber (replay.refused (taskOn model) steps Q)) ≡ Q
+  unfolding replay.refused replayNumber
+  told-back = split (eqb Q 14) refl
+    where
+      split : (b : Bool) → eqb Q 14 ≡ b → replayRefusal (replayNumber (pick b (replayed.Stopped (badRow (taskOn model) steps)) (replayed.Refused Q))) ≡ Q
+      split true h =
+          let e : Q ≡ 14 = eqb-true Q 14 h in
+          refusal-low (badRow (taskOn model) steps * 2 ^ 32 + 14) (omega (arith, row-few e)) ∙ omega (arith, e)
+      split false h = refusal-low Q (omega (arith, replay-entry-low model s log rs)) ∙ omega (arith, replay-entry-low model s log rs)
+
+  abbrev rows-made : ReplayOutcome
+  rows-made = replayOutcome (replayNumber (replayed.Rows (length steps))) (over (signedBytes (rowList (taskOn model) (cutsOf s) steps)) rs)
+
+  entry-replayer : Judged (λ (o : ReplayOutcome). replayRefusal (o .answer)) (λ n. replayOutcome (replayNumber (replay.refused (taskOn model) steps n)) rs)
+      (replayEntryChecks model s log rs) rows-made (replayEntry model s log rs)
+  unfolding replayEntry replayNumber
+  entry-replayer =
+      judges _ _ replays.numbers refl (replayEntryChecks model s log rs) (replay-entry-numbers model s log rs) _
+      (refusal-none (replayNumber (replayed.Rows (length steps))) (omega arith)) told-back
+
+  module _ {r : ℕ} {l : List ℕ} (done : EntryReplays model s log rs r l) where
+    pub elhavir-replay-judged : Judged (λ (o : ReplayOutcome). replayRefusal (o .answer))
+        (λ n. replayOutcome (replayNumber (replay.refused (taskOn model) steps n)) rs)
+        (replayEntryChecks model s log rs) rows-made (replayOutcome r l)
+    elhavir-replay-judged = subst (Judged _ _ _ _) (sym done) entry-replayer
+
+    pub elhavir-replay-numbers : has replayNumbers (replayRefusal r) ≡ true
+    elhavir-replay-numbers = ap (has replayNumbers) (elhavir-replay-judged .told) ∙ replay-entry-gives model s log rs

@@ -34,11 +34,11 @@ drop-front [] l = refl
 drop-front (x ∷ a) l = drop-front a l
 
 -- what stands past n values written over a list is what stood there
-past : (n : ℕ) (new old : List ℕ) {l : List ℕ} → l ≡ over new old → length new ≡ n → drop n l ≡ drop n old
+pub past : (n : ℕ) (new old : List ℕ) {l : List ℕ} → l ≡ over new old → length new ≡ n → drop n l ≡ drop n old
 unfolding over
 past n new old e k = rw (sym k, e) (drop-front new (drop (length new) old))
 
-bytes-length : (vs : List ℕ) → length (bytesOf vs) ≡ length vs * 4
+pub bytes-length : (vs : List ℕ) → length (bytesOf vs) ≡ length vs * 4
 unfolding bytesOf
 bytes-length vs = each-length (bytesAt vs) 4 (four vs) (length vs)
 

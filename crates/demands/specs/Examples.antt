@@ -4,6 +4,9 @@ use mathlib.Core.Path.{_≡_, refl}
 use mathlib.Core.List.{List, [], _∷_, _++_, map}
 use mathlib.Core.Option.{Option, none, some, Option·map}
 use Prim.Native.Nat.{ℕ}
+use lib.Dec.{eqb}
+use lib.IntN.{ℤ, pos, negℤ}
+use lib.ListN.{length}
 use Rattle.task.specs.Loops as loops
 use Rattle.task.specs.Task as task
 use Rattle.task.specs.Task.{Task, ColumnEntry, Change, StepEntry, State, Tenths, column, position, step, block}
@@ -16,6 +19,7 @@ use Rattle.sheets.specs.Holding.{columnSaid, changeSaid, stepSaid, taskIn, task
 use Rattle.blocks.specs.declared.Cut.{Cut}
 use Rattle.blocks.specs.Blocks as blocks
 use Rattle.distances.specs.Distances as distances
+use Rattle.replay.specs.Replay as replay
 use Rattle.run.specs.declared.Row.{Row}
 use Rattle.run.specs.Run as run
 use Rattle.run.specs.Run.{blockCount, rowsOf}
@@ -258,3 +262,71 @@ pub state-counts :
     ≡ 6 ∷ 6 ∷ 2 ∷ 1 ∷ 8 ∷ 8 ∷ 6 ∷ 9 ∷ 3 ∷ []
 unfolding task.stateCount task.columnCount task.sizeOf loops.prod
 state-counts = refl
+
+-- ---- 02, order 7: replays as one statement over one list
+
+-- a line: the tenths paid, the ground won and the detour; none is a dash
+pub record Line : Type 0 where
+  pub paid : Tenths
+  pub won : Option ℤ
+  pub detour : Option ℤ
+
+abbrev line : Tenths → ℤ → ℤ → Line
+line p w d = record { paid = p; won = some w; detour = some d }
+
+abbrev dashes : Tenths → Line
+dashes p = record { paid = p; won = none; detour = none }
+
+-- what is asked, a model, its cuts and a log; and what is told: the row of refusal 14, 0 for none, and where nothing is refused the lines
+pub record Shift : Type 0 where
+  pub model : Task
+  pub cuts : List Cut
+  pub log : List ℕ
+  pub stopped : ℕ
+  pub lines : List Line
+
+abbrev shift : Task → List Cut → List ℕ → List Line → Shift
+shift t cs log l = record { model = t; cuts = cs; log = log; stopped = 0; lines = l }
+
+abbrev stopping : Task → List Cut → List ℕ → ℕ → Shift
+stopping t cs log n = record { model = t; cuts = cs; log = log; stopped = n; lines = [] }
+
+pub linesOf : Task → List Cut → List ℕ → List Line
+linesOf t cs log = loops.tab (length log) (λ i. record { paid = replay.paid t log i; won = replay.won t cs log i; detour = replay.detour t cs log i })
+
+pub replayed : Shift → Shift
+replayed e =
+    let n = replay.badRow (e .model) (e .log) in
+    record { model = e .model; cuts = e .cuts; log = e .log; stopped = n; lines = judging.pick (eqb n 0) (linesOf (e .model) (e .cuts) (e .log)) [] }
+
+-- step 1 leads to a position from which there is no way, and step 2 stays there
+abbrev deadEnd : Task
+deadEnd = record {
+  columns = sized 3 0 (some 2) ∷ [];
+  steps = costing 5 (some 0 ⇒ some 2 ∷ []) ∷ costing 3 (some 0 ⇒ some 1 ∷ []) ∷ costing 4 (some 1 ⇒ none ∷ []) ∷ costing 7 (some 0 ⇒ none ∷ []) ∷ [];
+}
+
+pub shifts : List Shift
+shifts =
+    -- "On the five blocks of 01 the log 0, 1, 2 gives won -10, 10, 30 and detour 30, 0, 0."
+    shift rethread (c1 ∷ c2 ∷ c3 ∷ c4 ∷ []) (0 ∷ 1 ∷ 2 ∷ []) (line 20 (negℤ (pos 10)) (pos 30) ∷ line 10 (pos 10) (pos 0) ∷ line 30 (pos 30) (pos 0) ∷ [])
+    -- the plan of room 5; no steps
+    ∷ shift rethread (c1 ∷ c2 ∷ c3 ∷ c4 ∷ []) (2 ∷ 0 ∷ 3 ∷ []) (line 30 (pos 30) (pos 0) ∷ line 20 (pos 20) (pos 0) ∷ line 50 (pos 50) (pos 0) ∷ [])
+    ∷ shift rethread (c1 ∷ c2 ∷ c3 ∷ c4 ∷ []) [] []
+    -- from the row that loses the way on there are dashes; without the cut of {1} it is not seen
+    ∷ shift deadEnd (cut 0 0 4 ∷ cut 0 0 2 ∷ []) (3 ∷ 1 ∷ 2 ∷ []) (line 7 (pos 0) (pos 7) ∷ dashes 3 ∷ dashes 4 ∷ [])
+    ∷ shift deadEnd (cut 0 0 4 ∷ []) (3 ∷ 1 ∷ 2 ∷ []) (line 7 (pos 0) (pos 7) ∷ line 3 (pos 0) (pos 3) ∷ line 4 (pos 0) (pos 4) ∷ [])
+    -- tape at the crawl; a step that there is not
+    ∷ stopping rethread (c1 ∷ c2 ∷ c3 ∷ c4 ∷ []) (0 ∷ 2 ∷ 1 ∷ []) 2
+    ∷ stopping rethread (c1 ∷ c2 ∷ c3 ∷ c4 ∷ []) (4 ∷ []) 1
+    ∷ []
+
+pub replays : map replayed shifts ≡ shifts
+unfolding replayed shifts linesOf replay.badRow replay.badAt replay.before replay.stepAt replay.paid replay.won replay.detour replay.difference
+    replay.dashed replay.onWay replay.far replay.hasWay loops.all loops.first loops.tab task.columnCount task.stepCount task.sizeOf task.startAt task.goalAt
+    task.costOf task.changeAt task.needAt task.effectAt task.eachColumn task.perColumn task.at task.meets task.changed task.start task.canTake task.taken
+    blocks.holds blocks.only blocks.every blocks.common blocks.without blocks.isEmpty blocks.setAt blocks.blockAt blocks.leadsAt blocks.goalIn
+    blocks.withSet blocks.cutBlock blocks.cutAll blocks.inBlock blocks.goalBlock blocks.leads blocks.whole blocks.blocksOf blocks.blockOf distances.leadsTo
+    distances.plus distances.zeroFar distances.nearer distances.pick distances.least distances.via distances.farOf distances.onward distances.better
+    distances.round distances.rounds distances.distances distances.stateFar distances.estimate
+replays = refl
