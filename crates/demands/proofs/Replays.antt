@@ -28,7 +28,7 @@ use Rattle.replay.proofs.RowLaws.{rows-length, value-at}
 use Rattle.replay.proofs.PlanLaws.{stepsOf, plan-goal}
 use Rattle.replay_laws.proofs.Refusals.{Passed, quiet, stopped-bad}
 use Rattle.replay_laws.proofs.Rows as said
-use Rattle.replay_laws.proofs.Rows.{RowsRight, GoalReached}
+use Rattle.replay_laws.proofs.Rows.{HasRows, RowsRight, GoalReached}
 use Rattle.historian.specs.Entries.{fewPlaces}
 use Rattle.historian.specs.ReplayEntry.{replayNumber, replayEntryChecks, ReplayOutcome, replayOutcome, EntryReplays}
 use Rattle.demands.proofs.Numbers.{kind, steps, value, Parts, takes-apart, value-back}
@@ -67,6 +67,10 @@ module _ (model s log : List ℕ) (rows : List ℤ) {n : ℕ} {l : List ℤ} (do
   -- a row for each step
   pub replay-each : n ≡ length log
   replay-each = said.every-row model s log rows done
+
+  -- value k of row i stands at place 3 i + k
+  pub replay-value : HasRows (taskOn model) (cutsOf s) log (λ k. getD l k (pos 0))
+  replay-value = said.rows-there model s log rows done
 
   -- what they say
   pub replay-right : RowsRight (taskOn model) (cutsOf s) log (λ k. getD l k (pos 0))
@@ -219,10 +223,10 @@ module _ (model s log rows : List ℕ) {r : ℕ} {l : List ℕ} (done : EntryRep
     written : l ≡ over (signedBytes zs) rows
     written = ap (λ (o : ReplayOutcome). o .rows) (made (quiet-kind k))
 
-    -- the four bytes of a value give it back
-    value-there : (i j : ℕ) → i < length taken-steps → j < 3 → signedOn l (i * 3 + j) ≡ getD (rowValues t (cutsOf s) taken-steps i) j (pos 0)
+    -- value j of row i, which its four bytes give back
+    pub entry-replay-value : HasRows t (cutsOf s) taken-steps (signedOn l)
     unfolding signedBytes twos
-    value-there i j h m =
+    entry-replay-value i j h m =
         let p = checked (quiet-kind k) in
         let n = i * 3 + j in
         let e : getD zs n (pos 0) ≡ getD (rowValues t (cutsOf s) taken-steps i) j (pos 0) = value-at t (cutsOf s) taken-steps i j h m in
@@ -238,7 +242,7 @@ module _ (model s log rows : List ℕ) {r : ℕ} {l : List ℕ} (done : EntryRep
 
     -- what the rows say
     pub entry-replay-right : RowsRight t (cutsOf s) taken-steps (signedOn l)
-    entry-replay-right = let p = checked (quiet-kind k) in said.sheet-rows-right model s taken-steps (p .sheets) (p .fine) (signedOn l) value-there
+    entry-replay-right = let p = checked (quiet-kind k) in said.sheet-rows-right model s taken-steps (p .sheets) (p .fine) (signedOn l) entry-replay-value
 
     pub entry-replay-plan : IsPlan t (stepsOf taken-steps) → GoalReached t (cutsOf s) taken-steps (signedOn l)
     entry-replay-plan p = entry-replay-right .goal-reached (plan-goal t taken-steps p)

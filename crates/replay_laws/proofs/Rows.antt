@@ -223,10 +223,12 @@ module _ (model s log : List ℕ) (rows : List ℤ) {n : ℕ} {next : List ℤ} 
   pub rows-written : next ≡ over (rowList t (cutsOf s) log) rows
   rows-written = ap (λ (o : Outcome). o .rows) whole
 
+  -- the value of each place
+  pub rows-there : HasRows t (cutsOf s) log (λ k. getD next k (pos 0))
+  rows-there i k l h = ap (λ (x : List ℤ). getD x (i * 3 + k) (pos 0)) rows-written ∙ row.written-at t (cutsOf s) log rows i k l h
+
   pub written-right : RowsRight t (cutsOf s) log (λ k. getD next k (pos 0))
-  written-right =
-      sheet-rows-right model s log (checked .sheets) (checked .fine) (λ k. getD next k (pos 0))
-      (λ i k l h. ap (λ (x : List ℤ). getD x (i * 3 + k) (pos 0)) rows-written ∙ row.written-at t (cutsOf s) log rows i k l h)
+  written-right = sheet-rows-right model s log (checked .sheets) (checked .fine) (λ k. getD next k (pos 0)) rows-there
 
   -- places past the last row are as found
   pub past-rows : drop (n * 3) next ≡ drop (n * 3) rows
