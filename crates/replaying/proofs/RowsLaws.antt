@@ -34,9 +34,10 @@ use Rattle.replay.specs.Replay.{stepAt, before, badRow, paid, far, dashed, diff
 use Rattle.replay.proofs.LogLaws.{before-state, good-all, good-row}
 use Rattle.replay.proofs.RowLaws.{way-back, dashed-is, rows-length}
 use Rattle.replaying.specs.declared.Frame.{Frame}
-use Rattle.replaying.specs.Replaying.{rowBy, Tabled, Sheets}
+use Rattle.figures.specs.Figures.{rowBy}
+use Rattle.figures.proofs.FigureLaws.{row-same}
+use Rattle.replaying.specs.Replaying.{Tabled, Sheets}
 use Rattle.replaying.proofs.JoinLaws.{stop-is, along, cost-is}
-use Rattle.replaying.proofs.FigureLaws.{row-same}
 
 -- ---- rows from a table of estimates
 module _ (t : Task) (v : Accepted t) (cs : List Cut) (ok : accepted t cs ≡ true) (few : length cs < limits .blocks) (log : List ℕ) (good : badRow t log ≡ 0) where

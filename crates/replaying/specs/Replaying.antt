@@ -1,11 +1,11 @@
--- A replay as code makes it: the model in tables, and rows from the estimates along the log.
-use Prim.Native.Nat.{ℕ, _+_, _*_, _≤_}
+-- A replay as code makes it: the model in tables, and what is left to judge after the sheets.
+use Prim.Native.Nat.{ℕ, _*_, _≤_}
 use mathlib.Core.Path.{_≡_}
 use mathlib.Core.Bool.{not}
 use mathlib.Core.List.{List, [], _∷_}
 use lib.Dec.{eqb}
-use lib.IntN.{ℤ, pos, _-ℤ_}
-use lib.ListN.{length, getD}
+use lib.IntN.{ℤ}
+use lib.ListN.{length}
 use Rattle.task.specs.Loops.{over}
 use Rattle.task.specs.Sizes.{limits}
 use Rattle.task.specs.Task.{Task, columnCount, start}
@@ -19,25 +19,8 @@ use Rattle.standing.specs.Standing.{Stands}
 use Rattle.cut_sheets.specs.CutPart.{cutOn, countOf, judgeCuts}
 use Rattle.cut_sheets.specs.Judged.{Made}
 use Rattle.replay.specs.declared.Replayed.the-variants.{Rows}
-use Rattle.replay.specs.Replay.{badRow, dash, rowList, refused, Outcome, outcome}
+use Rattle.replay.specs.Replay.{badRow, rowList, refused, Outcome, outcome}
 use Rattle.replaying.specs.declared.Frame.{Frame}
-
--- ---- the figures of a row, from the estimates before and after it
-
-unfoldable pub wonBy : ℕ → ℕ → ℤ
-wonBy before after = pick (eqb after (limits .«no_way»)) dash (pos before -ℤ pos after)
-
-unfoldable pub detourBy : ℕ → ℕ → ℕ → ℤ
-detourBy paid before after = pick (eqb after (limits .«no_way»)) dash (pos paid -ℤ (pos before -ℤ pos after))
-
-unfoldable pub rowOf : ℕ → ℕ → ℕ → List ℤ
-rowOf paid before after = pos paid ∷ wonBy before after ∷ detourBy paid before after ∷ []
-
--- row i, from tables of costs and of estimates
-unfoldable pub rowBy : List ℕ → List ℕ → List ℕ → ℕ → List ℤ
-rowBy costs log estimates i = rowOf (getD costs (getD log i 0) 0) (getD estimates i 0) (getD estimates (i + 1) 0)
-
--- ---- what is known on the way
 
 -- the model of a sheet in tables, and its start as it stands
 pub record Tabled (t : Task) (f : Frame) (needs lands goals here : List ℕ) : Type 0 where

@@ -1,21 +1,19 @@
 // The replay of a shift's steps: sheets and log judged, and a row written for each step.
 ghost use mathlib.Core.Path.{_≡_};
-ghost use Prim.Native.Nat.{ℕ, _+_, _*_, _≤_, _<_};
-ghost use lib.IntN.{pos};
-ghost use lib.ListN.{length, getD};
+ghost use Prim.Native.Nat.{_*_, _≤_};
+ghost use lib.ListN.{length};
 ghost use Rattle.task.specs.Sizes.{limits};
-ghost use Rattle.fields.specs.Judging.{each};
-ghost use Rattle.fields.specs.Places.{puts};
 ghost use Rattle.sheets.specs.ModelSheet.{judgeSheet};
 ghost use Rattle.sheets.specs.Holding.{taskOn};
 ghost use Rattle.cut_sheets.specs.CutPart.{cutsNamed, cutOn, countOf};
 ghost use Rattle.replay.specs.Replay.{outcome, Replays};
-ghost use Rattle.replaying.specs.Replaying.{wonBy, detourBy, rowOf, rowBy, Tabled, Sheets, replayedOn};
+ghost use Rattle.replaying.specs.Replaying.{Tabled, Sheets, replayedOn};
 use along::fill_along;
 use along::judge_log;
 use cut_reading::fill_cuts;
 use cut_reading::judge_cut_sheet;
 use fields::field::field;
+use figures::put_rows;
 use masks::fill_goals;
 use masks::fill_lands;
 use masks::fill_needs;
@@ -23,7 +21,6 @@ use replay::Replayed;
 use settling::fill_distances;
 use standing::stand;
 use task::Model;
-use task::tenths;
 use unpack::unpack_model;
 
 // What is left of a model beside the tables of its needs, landings and goals.
@@ -31,59 +28,6 @@ struct Frame {
     columns: usize,
     steps: usize,
     costs: [u16; Model::STEPS],
-}
-
-// The ground won: the estimate before less the estimate after, or a dash. Only the state after is looked at: no step leads from a state without a way to one
-// that has one, so where an earlier row has a dash the state after this one has no way either.
-fn won(before: u32, after: u32) -> i32
-    requires { ⌜ (before ≤ limits .«no_way») × (after ≤ limits .«no_way») ⌝ }
-    ensures { λ r. ⌜ r ≡ wonBy before after ⌝ }
-{
-    if after == Model::NO_WAY {
-        return Model::NO_WAY as i32;
-    }
-    before as i32 - after as i32
-}
-
-// The detour: paid less won, or a dash.
-fn detour(paid: u32, before: u32, after: u32) -> i32
-    requires { ⌜ (paid ≤ 65535) × (before ≤ limits .«no_way») × (after ≤ limits .«no_way») ⌝ }
-    ensures { λ r. ⌜ r ≡ detourBy paid before after ⌝ }
-{
-    if after == Model::NO_WAY {
-        return Model::NO_WAY as i32;
-    }
-    paid as i32 - won(before, after)
-}
-
-// Puts row i: three values.
-fn put_row(i: usize, paid: u32, before: u32, after: u32, rows: &mut [i32])
-    requires { ⌜ (i < limits .log) × (i * 3 + 3 ≤ length (now rows)) × (paid ≤ 65535) × (before ≤ limits .«no_way») × (after ≤ limits .«no_way») ⌝ }
-    ensures { λ _. ⌜ now (rows .exit) ≡ puts (i * 3) (rowOf paid before after) (now (rows .entry)) ⌝ }
-{
-    let place = i * 3;
-    let cost = paid as i32;
-    let ground = won(before, after);
-    let lost = detour(paid, before, after);
-    rows[place] = cost;
-    rows[place + 1] = ground;
-    rows[place + 1 + 1] = lost;
-}
-
-// Puts a row for each step of the log.
-fn put_rows(costs: &[u16], log: &[u32], estimates: &[u32; Model::LOG + 1], rows: &mut [i32])
-    requires { ⌜ (length (now log) ≤ limits .log) × (length (now log) * 3 ≤ length (now rows)) ⌝
-        ∗ ⌜ ((i : ℕ) → i < length (now log) → getD (now log) i 0 < length (now costs)) ⌝
-        ∗ ⌜ ((i : ℕ) → i ≤ length (now log) → getD (now estimates) i 0 ≤ limits .«no_way») ⌝ }
-    ensures { λ _. ⌜ now (rows .exit) ≡ puts 0 (each (length (now (log .entry))) (rowBy (now (costs .entry)) (now (log .entry)) (now (estimates .entry)))) (now (rows .entry)) ⌝ }
-{
-    let mut i: usize = 0;
-    while i < log.len() {
-        let s = log[i] as usize;
-        let paid = tenths(costs[s]);
-        put_row(i, paid, estimates[i], estimates[i + 1], rows);
-        i += 1;
-    }
 }
 
 // The model of an accepted sheet in tables, and its start as it stands. The model itself is done with when this returns: the distances need the stack.

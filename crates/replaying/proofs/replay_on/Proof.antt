@@ -19,7 +19,7 @@ use Rattle.along.proofs.judge_log.Reads as judge-log-reads
 use Rattle.cut_reading.proofs.fill_cuts.Reads as fill-cuts-reads
 use Rattle.fields.proofs.field.field.Reads as field-reads
 use Rattle.replaying.proofs.fill_tables.Reads as fill-tables-reads
-use Rattle.replaying.proofs.put_rows.Reads as put-rows-reads
+use Rattle.figures.proofs.put_rows.Reads as put-rows-reads
 use Rattle.settling.proofs.fill_distances.Reads as fill-distances-reads
 
 -- src/lib.rt:134:9

@@ -1,10 +1,10 @@
 use Rattle.replay.specs.Replay.{dash}
-use Rattle.replaying.proofs.FigureLaws.{won-dash, won-fits, won-reads}
+use Rattle.figures.proofs.FigureLaws.{won-dash, won-fits, won-reads}
 use borrow.Author.Needs.{needs}
-use Rattle.replaying.proofs.won.Statement.{statement}
-use Rattle.replaying.proofs.won.Tie as tie
-use Rattle.replaying.proofs.won.Reads as reads
-use Rattle.replaying.proofs.won.Lts as lts
+use Rattle.figures.proofs.won.Statement.{statement}
+use Rattle.figures.proofs.won.Tie as tie
+use Rattle.figures.proofs.won.Reads as reads
+use Rattle.figures.proofs.won.Lts as lts
 
 -- src/lib.rt:43:16
 cast-result : tie.Need-cast-result

@@ -20,7 +20,7 @@ use Rattle.fields.specs.Places.{puts}
 use Rattle.fields.proofs.PlaceLaws.{puts-next}
 use Rattle.replay.specs.Replay.{hasWay, dash, figure}
 use Rattle.replay.proofs.SignedLaws.{less-less}
-use Rattle.replaying.specs.Replaying.{wonBy, detourBy, rowOf, rowBy}
+use Rattle.figures.specs.Figures.{wonBy, detourBy, rowOf, rowBy}
 
 -- ---- differences within a width
 mag-pick : (t : Bool) (a b n : ℕ) → a < n → b < n → mag (cond t (negsuc a) (pos b)) < n

@@ -1,13 +1,13 @@
 use native.Mathlib.Omega.{arith}
 use lib.ListN.{length-set}
-use Rattle.replaying.proofs.FigureLaws.{row-made}
+use Rattle.figures.proofs.FigureLaws.{row-made}
 use borrow.Author.Needs.{needs}
-use Rattle.replaying.proofs.put_row.Statement.{statement}
-use Rattle.replaying.proofs.put_row.Tie as tie
-use Rattle.replaying.proofs.put_row.Reads as reads
-use Rattle.replaying.proofs.put_row.Lts as lts
-use Rattle.replaying.proofs.detour.Reads as detour-reads
-use Rattle.replaying.proofs.won.Reads as won-reads
+use Rattle.figures.proofs.put_row.Statement.{statement}
+use Rattle.figures.proofs.put_row.Tie as tie
+use Rattle.figures.proofs.put_row.Reads as reads
+use Rattle.figures.proofs.put_row.Lts as lts
+use Rattle.figures.proofs.detour.Reads as detour-reads
+use Rattle.figures.proofs.won.Reads as won-reads
 
 -- src/lib.rt:64:17
 mul-place : tie.Need-mul-place

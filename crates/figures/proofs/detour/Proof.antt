@@ -1,11 +1,11 @@
 use Rattle.replay.specs.Replay.{dash}
-use Rattle.replaying.proofs.FigureLaws.{detour-dash, detour-fits, detour-reads}
+use Rattle.figures.proofs.FigureLaws.{detour-dash, detour-fits, detour-reads}
 use borrow.Author.Needs.{needs}
-use Rattle.replaying.proofs.detour.Statement.{statement}
-use Rattle.replaying.proofs.detour.Tie as tie
-use Rattle.replaying.proofs.detour.Reads as reads
-use Rattle.replaying.proofs.detour.Lts as lts
-use Rattle.replaying.proofs.won.Reads as won-reads
+use Rattle.figures.proofs.detour.Statement.{statement}
+use Rattle.figures.proofs.detour.Tie as tie
+use Rattle.figures.proofs.detour.Reads as reads
+use Rattle.figures.proofs.detour.Lts as lts
+use Rattle.figures.proofs.won.Reads as won-reads
 
 -- src/lib.rt:54:16
 cast-result : tie.Need-cast-result

@@ -5,14 +5,14 @@ use lib.ListN.{length}
 use Rattle.fields.specs.Judging.{each}
 use Rattle.fields.specs.Places.{puts}
 use Rattle.fields.proofs.PlaceLaws.{puts-none, puts-length, puts-end}
-use Rattle.replaying.specs.Replaying.{rowBy}
-use Rattle.replaying.proofs.FigureLaws.{again}
+use Rattle.figures.specs.Figures.{rowBy}
+use Rattle.figures.proofs.FigureLaws.{again}
 use borrow.Author.Needs.{needs}
-use Rattle.replaying.proofs.put_rows.Statement.{statement}
-use Rattle.replaying.proofs.put_rows.Tie as tie
-use Rattle.replaying.proofs.put_rows.Reads as reads
-use Rattle.replaying.proofs.put_rows.Lts as lts
-use Rattle.replaying.proofs.put_row.Reads as put-row-reads
+use Rattle.figures.proofs.put_rows.Statement.{statement}
+use Rattle.figures.proofs.put_rows.Tie as tie
+use Rattle.figures.proofs.put_rows.Reads as reads
+use Rattle.figures.proofs.put_rows.Lts as lts
+use Rattle.figures.proofs.put_row.Reads as put-row-reads
 use Rattle.task.proofs.tenths.Reads as tenths-reads
 
 abbrev Inv-loop : tie.InvT-loop
