@@ -4,30 +4,13 @@
  * Runs the model of a model sheet and prints its change sheet. Each state, written as positions with commas (1,0), is then
  * asked about with the cuts that the run made. Exit status: 0 answered, 1 refused, 2 bad arguments or a file that failed.
  */
-#include <errno.h>
 #include <inttypes.h>
-#include <stdarg.h>
 #include <stdint.h>
 #include <stdio.h>
 #include <stdlib.h>
-#include <string.h>
 
+#include "common.h"
 #include "elhavir.h"
-
-enum { ANSWERED = 0, REFUSED = 1, FAILED = 2 };
-
-/* A model sheet as it stands in its file. One byte more than any sheet has, so that the library sees a file that is too long. */
-struct sheet {
-    uint8_t bytes[ELHAVIR_MAX_MODEL_SHEET_BYTES + 1];
-    size_t length;
-};
-
-/* A run's answer number and the lists it filled, with places for the largest room. */
-struct run {
-    uint64_t answer;
-    uint8_t cuts[ELHAVIR_MAX_CUTS * ELHAVIR_CUT_BYTES];
-    uint8_t rows[ELHAVIR_MAX_CUTS * ELHAVIR_ROW_BYTES];
-};
 
 /* States to ask about, one byte for each column of each state, and the estimates they get. */
 struct states {
@@ -36,52 +19,6 @@ struct states {
     uint8_t *positions;
     uint8_t *estimates;
 };
-
-/* Says what is wrong on standard error. */
-static int failed(const char *format, ...)
-{
-    va_list words;
-    va_start(words, format);
-    fputs("historian: ", stderr);
-    vfprintf(stderr, format, words);
-    fputc('\n', stderr);
-    va_end(words);
-    return FAILED;
-}
-
-/* Reads decimal digits from *text up to `end`. Signs, blanks and numbers above `most` are not taken. */
-static int read_number(const char **text, char end, uint32_t most, uint32_t *number)
-{
-    const char *at = *text;
-    uint64_t value = 0;
-    while (*at >= '0' && *at <= '9') {
-        value = 10 * value + (uint64_t)(*at - '0');
-        if (value > most)
-            return 0;
-        at++;
-    }
-    if (at == *text || *at != end)
-        return 0;
-    *text = at;
-    *number = (uint32_t)value;
-    return 1;
-}
-
-static int read_sheet(const char *name, struct sheet *sheet)
-{
-    FILE *file = fopen(name, "rb");
-    int bad;
-    if (file == NULL)
-        return failed("cannot open %s: %s", name, strerror(errno));
-    sheet->length = fread(sheet->bytes, 1, sizeof sheet->bytes, file);
-    bad = ferror(file);
-    fclose(file);
-    if (bad)
-        return failed("cannot read %s", name);
-    if (sheet->length > ELHAVIR_MAX_MODEL_SHEET_BYTES)
-        failed("%s is too long: no model sheet has more than %u bytes", name, ELHAVIR_MAX_MODEL_SHEET_BYTES);
-    return ANSWERED;
-}
 
 /* The number of columns stands in bits 4 to 8 of an accepted sheet. */
 static size_t columns_of(const struct sheet *sheet)
@@ -120,15 +57,6 @@ static int read_states(char **texts, size_t count, size_t columns, struct states
     return ANSWERED;
 }
 
-static int print_refusal(uint32_t number)
-{
-    printf("refused %" PRIu32 "\n", number);
-    /* so that the two lines stand in this order where both go to one place */
-    fflush(stdout);
-    fprintf(stderr, "historian: refused %" PRIu32 ": %s\n", number, elhavir_refusal_words(number));
-    return REFUSED;
-}
-
 static void print_plan(const struct run *run)
 {
     uint32_t steps = elhavir_answer_steps(run->answer);
@@ -156,35 +84,6 @@ static void print_change_sheet(const struct run *run)
         printf("open %" PRIu32 " blocks %" PRIu32 "\n", elhavir_answer_value(run->answer), blocks);
         break;
     }
-}
-
-/* Sets the next `width` bits, most significant first. The bytes were all zero, so the last one is filled up with zero bits. */
-static void put_field(uint8_t *bytes, size_t *used, unsigned width, uint32_t value)
-{
-    while (width-- > 0) {
-        if (value >> width & 1)
-            bytes[*used / 8] |= (uint8_t)(128 >> *used % 8);
-        ++*used;
-    }
-}
-
-/* Writes the model sheet and from the next byte the cut part; returns the number of bytes. */
-static size_t write_cut_sheet(const struct sheet *model, const struct run *run, uint8_t *bytes)
-{
-    uint32_t cuts = elhavir_answer_blocks(run->answer) - 1;
-    size_t used = 8 * model->length;
-    uint32_t i;
-    memset(bytes, 0, ELHAVIR_MAX_CUT_SHEET_BYTES);
-    memcpy(bytes, model->bytes, model->length);
-    put_field(bytes, &used, 4, 2);
-    put_field(bytes, &used, 8, cuts);
-    for (i = 0; i < cuts; i++) {
-        elhavir_cut cut = elhavir_get_cut(run->cuts, i);
-        put_field(bytes, &used, 8, cut.block);
-        put_field(bytes, &used, 4, cut.column);
-        put_field(bytes, &used, 32, cut.wanted);
-    }
-    return (used + 7) / 8;
 }
 
 static void print_estimate(const uint8_t *positions, size_t columns, uint32_t estimate)
@@ -234,22 +133,12 @@ int main(int argc, char **argv)
 {
     struct sheet model;
     struct run run;
-    const char *text;
-    uint32_t room;
     int status;
+    program = "historian";
     if (argc < 3)
         return failed("expected: historian MODEL.sheet ROOM [STATE ...]");
-    text = argv[2];
-    if (!read_number(&text, '\0', UINT32_MAX, &room))
-        return failed("bad room '%s': expected a number of blocks", argv[2]);
-    if (read_sheet(argv[1], &model) != ANSWERED)
-        return FAILED;
-    run.answer = elhavir_run(model.bytes, model.length, room, run.cuts, sizeof run.cuts, run.rows, sizeof run.rows);
-    if (elhavir_answer_kind(run.answer) == ELHAVIR_REFUSED)
-        status = print_refusal(elhavir_answer_value(run.answer));
-    else
+    status = make_run(argv[1], argv[2], &model, &run);
+    if (status == ANSWERED)
         status = answer(&model, &run, argv + 3, (size_t)argc - 3);
-    if (fflush(stdout) != 0 || ferror(stdout))
-        return failed("cannot write the answer");
-    return status;
+    return ended(status);
 }
