@@ -16,34 +16,20 @@
 // built by `rt staticlib ask`, and then
 //     rustc -O --cfg numbers --out-dir target/bench bench/question.rs -L COPY/target/staticlib -lask && target/bench/question
 mod clock;
+#[cfg(library)]
+mod entries;
 mod models;
 mod plain;
+mod sheets;
 mod stack;
 
 use clock::{in_turn, median, timed};
-use models::{cut_sheet, random_cuts, states, Random};
+#[cfg(library)]
+use entries as library;
+use models::cut_sheet;
 use plain::Unwatched;
 
 type Entry = fn(&[u8], &[u8], &[u8], &mut [u8]) -> u32;
-
-#[cfg(library)]
-mod library {
-    extern "C" {
-        fn elhavir_question(
-            model: *const u8, model_len: usize, cut_sheet: *const u8, cut_sheet_len: usize, states: *const u8, states_len: usize,
-            estimates: *mut u8, estimates_len: usize,
-        ) -> u32;
-    }
-
-    pub fn question(model: &[u8], sheet: &[u8], states: &[u8], estimates: &mut [u8]) -> u32 {
-        unsafe {
-            elhavir_question(
-                model.as_ptr(), model.len(), sheet.as_ptr(), sheet.len(), states.as_ptr(), states.len(),
-                estimates.as_mut_ptr(), estimates.len(),
-            )
-        }
-    }
-}
 
 #[cfg(numbers)]
 mod library {
@@ -146,15 +132,7 @@ fn main() {
     assert!(told[12..].iter().all(|b| *b == 0x33));
     let reps = std::env::args().nth(1).and_then(|n| n.parse().ok()).unwrap_or(51);
     println!("64 states after 255 cuts, 16 columns of 32 positions, 128 steps");
-    let mut r = Random(88172645463325252);
-    for m in models::at_limits() {
-        let model = m.sheet();
-        let states = states(&m, 64, &mut r);
-        let mut cuts = [0; 765];
-        plain::run(&model, 256, &mut cuts, &mut [0; 765], &mut Unwatched);
-        let sheet = cut_sheet(&model, &cuts);
-        measure(&Question { name: m.name.clone(), model: model.clone(), sheet, states: states.clone() }, reps);
-        let sheet = cut_sheet(&model, &random_cuts(&m, &mut r));
-        measure(&Question { name: format!("{}, random cuts", m.name), model, sheet, states }, reps);
+    for s in sheets::all() {
+        measure(&Question { name: s.name, model: s.model, sheet: s.sheet, states: s.states }, reps);
     }
 }

@@ -4,6 +4,8 @@
 // With the archive that `rt staticlib historian` writes (a number after it says how often a model at the limits is run):
 //     rustc -O --cfg library --out-dir target/bench bench/run.rs -L target/staticlib -lhistorian && target/bench/run
 mod clock;
+#[cfg(library)]
+mod entries;
 mod models;
 mod plain;
 mod stack;
@@ -16,20 +18,7 @@ use std::time::Instant;
 type Entry = fn(&[u8], u32, &mut [u8], &mut [u8]) -> u64;
 
 #[cfg(library)]
-mod library {
-    extern "C" {
-        fn elhavir_run(
-            sheet: *const u8, sheet_len: usize, room: u32, cuts: *mut u8, cuts_len: usize, rows: *mut u8, rows_len: usize,
-        ) -> u64;
-    }
-
-    pub fn run(sheet: &[u8], room: u32, cuts: &mut [u8], rows: &mut [u8]) -> u64 {
-        unsafe { elhavir_run(sheet.as_ptr(), sheet.len(), room, cuts.as_mut_ptr(), cuts.len(), rows.as_mut_ptr(), rows.len()) }
-    }
-}
-
-#[cfg(library)]
-const LIBRARY: Option<Entry> = Some(library::run);
+const LIBRARY: Option<Entry> = Some(entries::run);
 #[cfg(not(library))]
 const LIBRARY: Option<Entry> = None;
 
