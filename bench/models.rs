@@ -65,6 +65,18 @@ pub struct Step {
     pub effect: Vec<Option<usize>>,
 }
 
+impl Step {
+    fn can_be_taken(&self, state: &[usize]) -> bool {
+        self.need.iter().zip(state).all(|(need, p)| need.map_or(true, |q| q == *p))
+    }
+
+    fn take(&self, state: &mut [usize]) {
+        for (effect, p) in self.effect.iter().zip(state) {
+            *p = effect.unwrap_or(*p);
+        }
+    }
+}
+
 #[derive(Clone)]
 pub struct Model {
     pub name: String,
@@ -98,6 +110,10 @@ impl Model {
 
     fn goal(&mut self, j: usize, p: usize) {
         self.columns[j].goal = Some(p);
+    }
+
+    fn start(&self) -> Vec<usize> {
+        self.columns.iter().map(|c| c.start).collect()
     }
 
     pub fn sheet(&self) -> Vec<u8> {
@@ -189,6 +205,48 @@ pub fn states(m: &Model, count: usize, r: &mut Random) -> Vec<u8> {
         }
     }
     out
+}
+
+// Steps that can be taken one after the other from the start, by chance. Fewer than wanted where nothing can be taken any more.
+fn walk(m: &Model, wanted: usize, r: &mut Random) -> Vec<u32> {
+    let mut state = m.start();
+    let mut log = Vec::new();
+    while log.len() < wanted {
+        let able: Vec<usize> = (0..m.steps.len()).filter(|&s| m.steps[s].can_be_taken(&state)).collect();
+        if able.is_empty() {
+            break;
+        }
+        let s = able[r.number(able.len())];
+        m.steps[s].take(&mut state);
+        log.push(s as u32);
+    }
+    log
+}
+
+// A log: the longest of some walks.
+pub fn log(m: &Model, wanted: usize, r: &mut Random) -> Vec<u32> {
+    let mut longest = Vec::new();
+    for _ in 0..100 {
+        let log = walk(m, wanted, r);
+        if longest.len() < log.len() {
+            longest = log;
+        }
+        if longest.len() == wanted {
+            break;
+        }
+    }
+    longest
+}
+
+// The states along a log, a byte for each column: the start, and the state after each step.
+pub fn along(m: &Model, log: &[u32]) -> Vec<u8> {
+    let mut state = m.start();
+    let mut out = state.clone();
+    for &s in log {
+        m.steps[s as usize].take(&mut state);
+        out.extend(&state);
+    }
+    out.into_iter().map(|p| p as u8).collect()
 }
 
 // ---- at the limits

@@ -6,6 +6,7 @@ pub const COLUMNS: usize = 16;
 pub const POSITIONS: usize = 32;
 pub const STEPS: usize = 128;
 pub const BLOCKS: usize = 256;
+pub const LOG: usize = 255;
 pub const NO_WAY: u64 = 16777215 * 65536;
 
 pub type Sets = [u32; BLOCKS * COLUMNS];
@@ -777,6 +778,13 @@ fn unmet(columns: usize, row: usize, wants: &[u32], state: &Masks) -> Option<usi
     None
 }
 
+// A state as sets of one position each.
+fn stand(columns: usize, state: &State, here: &mut Masks) {
+    for j in 0..columns {
+        here[j] = 1 << state[j];
+    }
+}
+
 // The state after a step that can be taken.
 fn take(columns: usize, s: usize, lands: &Wants, state: &Masks) -> Masks {
     let mut after = *state;
@@ -885,9 +893,7 @@ pub fn run<W: Watch>(sheet: &[u8], room: u32, cuts: &mut [u32], rows: &mut [u32]
     let mut goals = [0; COLUMNS];
     fill_goals(&model, &mut goals);
     let mut start = [0; COLUMNS];
-    for j in 0..columns {
-        start[j] = 1 << model.start[j];
-    }
+    stand(columns, &model.start, &mut start);
     let mut sets = [0; BLOCKS * COLUMNS];
     fill_first(&model, &mut sets);
     let mut dist = [0; BLOCKS];
@@ -919,7 +925,150 @@ pub fn run<W: Watch>(sheet: &[u8], room: u32, cuts: &mut [u32], rows: &mut [u32]
     }
 }
 
+// ---- the replay
+
+#[derive(Clone, Copy, PartialEq, Debug)]
+pub enum Replayed {
+    Rows(usize),
+    Stopped(usize),
+    Refused(u8),
+}
+
+const NO_COST: u32 = 16777215;
+
+// Whether a log's number is a known step that can be taken.
+fn may_go(columns: usize, steps: usize, s: u32, needs: &Wants, here: &Masks) -> bool {
+    if steps as u32 <= s {
+        return false;
+    }
+    unmet(columns, s as usize * COLUMNS, needs, here).is_none()
+}
+
+// The first row whose step is unknown or cannot be taken, counted from 1; 0 where there is none.
+fn judge_log(columns: usize, steps: usize, needs: &Wants, lands: &Wants, log: &[u32], start: &Masks) -> usize {
+    let mut here = *start;
+    for i in 0..log.len() {
+        if !may_go(columns, steps, log[i], needs, &here) {
+            return i + 1;
+        }
+        here = take(columns, log[i] as usize, lands, &here);
+    }
+    0
+}
+
+fn sends_on(block: u32, wanted: u32, here: u32, a: u32) -> bool {
+    block == a && here & wanted != 0
+}
+
+fn cost_here(count: usize, cuts: &[u32], dist: &Far, here: &Masks) -> u32 {
+    let mut a = 0;
+    for i in 0..count {
+        if sends_on(cuts[i * 3], cuts[i * 3 + 2], here[cuts[i * 3 + 1] as usize], a) {
+            a = i as u32 + 1;
+        }
+    }
+    (dist[a as usize] / 65536) as u32
+}
+
+// The estimates along a log: one before each row, and one after the last.
+fn fill_along(
+    columns: usize, lands: &Wants, count: usize, cuts: &[u32], dist: &Far, log: &[u32], start: &Masks, estimates: &mut [u32; LOG + 1],
+) {
+    let mut here = *start;
+    for i in 0..log.len() {
+        estimates[i] = cost_here(count, cuts, dist, &here);
+        here = take(columns, log[i] as usize, lands, &here);
+    }
+    estimates[log.len()] = cost_here(count, cuts, dist, &here);
+}
+
+// No step leads from a state without a way to one that has one, so the state after tells of a dash.
+fn won(before: u32, after: u32) -> i32 {
+    if after == NO_COST {
+        return NO_COST as i32;
+    }
+    before as i32 - after as i32
+}
+
+fn detour(paid: u32, before: u32, after: u32) -> i32 {
+    if after == NO_COST {
+        return NO_COST as i32;
+    }
+    paid as i32 - won(before, after)
+}
+
+fn put_rows(costs: &[u16], log: &[u32], estimates: &[u32; LOG + 1], rows: &mut [i32]) {
+    for i in 0..log.len() {
+        let paid = costs[log[i] as usize] as u32;
+        rows[i * 3] = paid as i32;
+        rows[i * 3 + 1] = won(estimates[i], estimates[i + 1]);
+        rows[i * 3 + 2] = detour(paid, estimates[i], estimates[i + 1]);
+    }
+}
+
+// What is left of a model beside the tables of its needs, landings and goals.
+struct Frame {
+    columns: usize,
+    steps: usize,
+    costs: [u16; STEPS],
+}
+
+fn fill_tables(model: &[u8], needs: &mut Wants, lands: &mut Wants, goals: &mut Masks, here: &mut Masks) -> Result<Frame, u8> {
+    let given = unpack_model(model)?;
+    fill_needs(&given, needs);
+    fill_lands(&given, lands);
+    fill_goals(&given, goals);
+    stand(given.columns, &given.start, here);
+    Ok(Frame { columns: given.columns, steps: given.steps, costs: given.cost })
+}
+
+fn replay_on<W: Watch>(model: &[u8], part: &[u8], sets: &Sets, log: &[u32], rows: &mut [i32], watch: &mut W) -> Replayed {
+    let mut needs = [0; STEPS * COLUMNS];
+    let mut lands = [0; STEPS * COLUMNS];
+    let mut goals = [0; COLUMNS];
+    let mut here = [0; COLUMNS];
+    let Frame { columns, steps, costs } = match fill_tables(model, &mut needs, &mut lands, &mut goals, &mut here) {
+        Ok(frame) => frame,
+        Err(code) => return Replayed::Refused(code),
+    };
+    let bad = judge_log(columns, steps, &needs, &lands, log, &here);
+    if bad != 0 {
+        return Replayed::Stopped(bad);
+    }
+    if rows.len() < log.len() * 3 {
+        return Replayed::Refused(8);
+    }
+    let count = field(part, 4, 8) as usize;
+    let mut cuts = [0; (BLOCKS - 1) * 3];
+    fill_cuts(part, count, &mut cuts);
+    let mut dist = [0; BLOCKS];
+    fill_distances(columns, steps, count + 1, &needs, &lands, &goals, &costs, sets, &mut dist, watch);
+    watch.enter(Part::Walk);
+    let mut estimates = [0; LOG + 1];
+    fill_along(columns, &lands, count, &cuts, &dist, log, &here, &mut estimates);
+    put_rows(&costs, log, &estimates, rows);
+    Replayed::Rows(log.len())
+}
+
+pub fn replay<W: Watch>(model: &[u8], sheet: &[u8], log: &[u32], rows: &mut [i32], watch: &mut W) -> Replayed {
+    watch.enter(Part::Reading);
+    let mut sets = [0; BLOCKS * COLUMNS];
+    let r = judge_cut_sheet(model, sheet, &mut sets);
+    if r != 0 {
+        return Replayed::Refused(r);
+    }
+    if LOG < log.len() {
+        return Replayed::Refused(15);
+    }
+    replay_on(model, &sheet[model.len()..], &sets, log, rows, watch)
+}
+
 // ---- the entries for a C program: lists in bytes, each value four of them, most significant first
+
+pub fn get_value(i: usize, bytes: &[u8]) -> u32 {
+    let at = i * 4;
+    (bytes[at] as u32) << 24 | (bytes[at + 1] as u32) << 16 | (bytes[at + 2] as u32) << 8 | bytes[at + 3] as u32
+}
 
 pub fn put_value(v: u32, i: usize, bytes: &mut [u8]) {
     bytes[i * 4] = (v >> 24) as u8;
@@ -972,5 +1121,27 @@ pub fn question_entry<W: Watch>(model: &[u8], sheet: &[u8], states: &[u8], estim
             0
         }
         Err(code) => code as u32,
+    }
+}
+
+#[inline(never)]
+pub fn replay_entry<W: Watch>(model: &[u8], sheet: &[u8], log: &[u8], rows: &mut [u8], watch: &mut W) -> u64 {
+    // one more than is accepted, to see that there are more
+    let mut steps = [0; LOG + 1];
+    let taken = (log.len() / 4).min(LOG + 1);
+    for i in 0..taken {
+        steps[i] = get_value(i, log);
+    }
+    let mut list = [0; LOG * 3];
+    let room = (rows.len() / 12).min(LOG);
+    match replay(model, sheet, &steps[..taken], &mut list[..room * 3], watch) {
+        Replayed::Rows(n) => {
+            for i in 0..n * 3 {
+                put_value(list[i] as u32, i, rows);
+            }
+            answer_number(1, 0, n, 0)
+        }
+        Replayed::Stopped(row) => answer_number(0, 0, row, 14),
+        Replayed::Refused(code) => code as u64,
     }
 }
