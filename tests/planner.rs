@@ -1,4 +1,5 @@
-//! An independent planner, written from the scope paper and from nothing else, to hold the product to.
+//! An independent planner, written from the scope paper and the change requests and from nothing else, to hold the
+//! product to.
 //!
 //! It goes other ways where it can: a sheet is a string of bits, a set is a row of yes and no, steps between blocks
 //! are found by trying every real state, distances are rounds that go on until nothing changes.
@@ -9,6 +10,7 @@ pub mod entries;
 #[allow(dead_code)] // for library.rs alone
 pub mod library;
 pub mod question;
+pub mod replay;
 pub mod run;
 pub mod search;
 pub mod sheet;
@@ -26,6 +28,7 @@ pub enum Part {
     Inner,
     Cuts,
     States,
+    Log,
     Room,
     Lists,
 }
@@ -34,10 +37,16 @@ pub enum Part {
 pub struct Refusal {
     pub part: Part,
     pub number: u32,
+    /// With 14 the first bad row of the log, counted from 1; 0 with every other number.
+    pub row: usize,
 }
 
 impl Refusal {
     pub fn new(part: Part, number: u32) -> Refusal {
-        Refusal { part, number }
+        Refusal { part, number, row: 0 }
+    }
+
+    pub fn in_row(row: usize) -> Refusal {
+        Refusal { part: Part::Log, number: 14, row }
     }
 }

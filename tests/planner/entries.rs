@@ -1,7 +1,8 @@
-//! The two entries as the historian calls them: lists of bytes, four bytes a value, most significant first.
+//! The entries as the historian calls them: lists of bytes, four bytes a value, most significant first.
 
 use super::blocks::weight;
 use super::question::{estimates, read_states};
+use super::replay::{replay, Replay};
 use super::run::{run, Answer, Run};
 use super::sheet::{read_cut_sheet, read_sheet};
 use super::task::Model;
@@ -9,7 +10,7 @@ use super::{Part, Refusal};
 
 /// Cuts and rows take three values a place.
 const TRIPLE: usize = 12;
-/// An estimate takes one.
+/// An estimate takes one, and so does a step of a log.
 const SINGLE: usize = 4;
 
 pub fn run_entry(sheet: &[u8], room: u32, cuts: &mut [u8], rows: &mut [u8]) -> (u64, Result<(Model, Run), Refusal>) {
@@ -61,6 +62,34 @@ fn judge_question(
     }
     let values = if states.is_empty() { Vec::new() } else { estimates(&model, &cuts, &blocks, &states) };
     Ok((model, values))
+}
+
+pub fn replay_entry(
+    model: &[u8], cut_sheet: &[u8], log: &[u8], rows: &mut [u8],
+) -> (u64, Result<(Model, Replay), Refusal>) {
+    match judge_replay(model, cut_sheet, log, rows.len()) {
+        Err(refusal) => (number(0, 0, refusal.row as u64, u64::from(refusal.number)), Err(refusal)),
+        Ok((model, replay)) => {
+            // what is below zero stands there in two's complement, as the low 32 bits have it
+            let values: Vec<u64> = replay.values().iter().map(|value| *value as u64).collect();
+            fill(rows, &values);
+            (number(1, 0, replay.rows.len() as u64, 0), Ok((model, replay)))
+        }
+    }
+}
+
+/// 8 is last: a place for each step of the log.
+fn judge_replay(model: &[u8], cut_sheet: &[u8], log: &[u8], rows_len: usize) -> Result<(Model, Replay), Refusal> {
+    let (model, replay) = replay(model, cut_sheet, &log_steps(log))?;
+    if rows_len / TRIPLE < replay.rows.len() {
+        return Err(Refusal::new(Part::Lists, 8));
+    }
+    Ok((model, replay))
+}
+
+/// The step numbers of a log; bytes short of a whole place are no place.
+pub fn log_steps(log: &[u8]) -> Vec<u32> {
+    log.chunks_exact(SINGLE).map(|place| u32::from_be_bytes([place[0], place[1], place[2], place[3]])).collect()
 }
 
 pub fn cut_values(run: &Run) -> Vec<u64> {

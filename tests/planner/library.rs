@@ -1,11 +1,13 @@
-//! The library's functions on sheets: what each answers, and what it puts into the tables lent for it.
+//! The library's functions on sheets, and the replay: what each answers, and what it puts into the tables lent for it.
 //!
 //! A frame has size, start and goal mark for each column; costs have one value for each step; marks have need mark and
 //! effect mark for each column of each step; cuts have block, column and wanted set for each cut; a sheet has its bytes.
-//! A place is a number of 32 bits here, whatever its width in the library.
+//! A log has one step number for each step; rows have paid, won and detour for each step of a log. A place is a number of
+//! 32 bits here, whatever its width in the library; one below zero is in two's complement.
 
 use super::bits::Field;
 use super::blocks::cut_fields;
+use super::replay;
 use super::sheet::{read_cut_sheet, read_sheet, take_cuts, take_model, write_cut_sheet, write_sheet, Fields, Home};
 use super::{Part, Refusal};
 use std::slice::Iter;
@@ -43,6 +45,13 @@ pub fn write_cuts(model: &[u8], count: u64, cuts: &[u32]) -> Result<Done, Refusa
     let mut given = Given::new(vec![2, count], [&[], &[], &[], cuts]);
     let (cuts, _) = take_cuts(&mut given, &model).map_err(|number| Refusal::new(Part::Cuts, number))?;
     Ok(written(&write_cut_sheet(&model, &cuts)))
+}
+
+/// Takes a model sheet, a cut sheet and a log, answers the number of rows and fills a list with them.
+pub fn replayed(model: &[u8], cut_sheet: &[u8], log: &[u32]) -> Result<Done, Refusal> {
+    let (_, replay) = replay::replay(model, cut_sheet, log)?;
+    let values = replay.values().iter().map(|value| *value as u32).collect();
+    Ok(Done { numbers: vec![replay.rows.len()], values: vec![values] })
 }
 
 /// Readers and writers give 8 last. A lent table needs as many places as there are values or bytes to put in it, no
