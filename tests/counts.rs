@@ -19,9 +19,10 @@ impl Refusals {
     /// Prints a table for each function, and says whether each refusal that can be was met so often, and no other.
     pub fn enough(&self, functions: &[&str], possible: &[Row], floor: u64) -> bool {
         let mut good = true;
+        let last = possible.iter().map(|row| row.2).max().unwrap_or(0);
         for function in functions {
             println!("refusals of {function}");
-            for number in 1..=11 {
+            for number in 1..=last {
                 let of_number = possible.iter().filter(|row| row.0 == *function && row.2 == number);
                 let parts: Vec<_> = of_number.map(|row| (row.1, self.counts.get(row).copied().unwrap_or(0))).collect();
                 if parts.is_empty() {

@@ -196,8 +196,13 @@ fn move_a_column(chance: &mut Chance, model: &mut Model, column: usize) {
 
 /// Cuts that are accepted and need not come from a run.
 pub fn random_cuts(chance: &mut Chance, model: &Model, count: usize) -> Vec<Cut> {
+    more_cuts(chance, model, Vec::new(), count)
+}
+
+/// The same, with these first.
+pub fn more_cuts(chance: &mut Chance, model: &Model, mut cuts: Vec<Cut>, count: usize) -> Vec<Cut> {
     let mut blocks = whole(model);
-    let mut cuts = Vec::new();
+    cuts.iter().for_each(|cut| make_cut(&mut blocks, cut));
     while cuts.len() < count {
         let Some(cut) = random_cut(chance, &blocks) else { break };
         make_cut(&mut blocks, &cut);

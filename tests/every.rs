@@ -52,7 +52,10 @@ pub fn every_call() -> Vec<Call> {
         calls.push(Asked { part, ..good() }.call());
     }
     calls.extend(cut_off());
-    calls.extend(pairs_of_bad_fields());
+    for sheet in pairs_of_bad_fields() {
+        calls.push(run_call(sheet.clone(), 0, 0, 0));
+        calls.push(Asked { inner: sheet, part: vec![0xff], ..good() }.call());
+    }
     calls.extend(rooms_and_lengths());
     calls.extend(states_and_lengths());
     calls.extend(run_faults_together());
@@ -61,7 +64,7 @@ pub fn every_call() -> Vec<Call> {
 }
 
 /// The sheet with every value of every field, every length, every bit turned, and a byte more.
-fn spoiled(fields: &[Field]) -> Vec<Vec<u8>> {
+pub fn spoiled(fields: &[Field]) -> Vec<Vec<u8>> {
     let mut sheets = Vec::new();
     for place in 0..fields.len() {
         for value in values_of(fields[place].width) {
@@ -109,21 +112,20 @@ pub fn bad(what: What) -> Option<u64> {
 }
 
 /// Two bad fields: the first in sheet order gives the number, whatever the numbers are.
-fn pairs_of_bad_fields() -> Vec<Call> {
+pub fn pairs_of_bad_fields() -> Vec<Vec<u8>> {
     let model = small_rethread();
     let kinds = layout(&model);
-    let mut calls = Vec::new();
+    let mut sheets = Vec::new();
     for one in 0..kinds.len() {
         for other in 0..one {
             let (Some(high), Some(low)) = (bad(kinds[one]), bad(kinds[other])) else { continue };
             let mut fields = model.fields();
             fields[one].value = high;
             fields[other].value = low;
-            calls.push(run_call(pack(&fields), 0, 0, 0));
-            calls.push(Asked { inner: pack(&fields), part: vec![0xff], ..good() }.call());
+            sheets.push(pack(&fields));
         }
     }
-    calls
+    sheets
 }
 
 fn rooms_and_lengths() -> Vec<Call> {
@@ -159,7 +161,7 @@ fn states_and_lengths() -> Vec<Call> {
 }
 
 /// A sheet for each of the numbers 1 to 6, and a good one.
-fn bad_sheets() -> Vec<Vec<u8>> {
+pub fn bad_sheets() -> Vec<Vec<u8>> {
     let fields = small_rethread().fields();
     let with = |place: usize, value: u64| {
         let mut fields = fields.clone();
@@ -184,15 +186,20 @@ fn run_faults_together() -> Vec<Call> {
     calls
 }
 
-/// Every choice of one fault or none for each stage of a question.
-fn question_faults_together() -> Vec<Call> {
+/// The same inside a cut sheet, and one of another model.
+pub fn bad_inner_sheets() -> Vec<Vec<u8>> {
     let mut other = small_rethread();
     other.steps.swap(0, 1);
-    let mut inner_sheets = bad_sheets();
-    inner_sheets.push(write_sheet(&other));
+    let mut sheets = bad_sheets();
+    sheets.push(write_sheet(&other));
+    sheets
+}
+
+/// Every choice of one fault or none for each stage of a question.
+fn question_faults_together() -> Vec<Call> {
     let mut calls = Vec::new();
     for given in bad_sheets() {
-        for inner in &inner_sheets {
+        for inner in bad_inner_sheets() {
             for part in bad_parts() {
                 for states in [vec![1, 0, 0, 1, 0, 2], vec![0; 5], vec![0; 130], vec![0, 0, 0, 3, 0, 0]] {
                     for list in [12, 11] {
@@ -207,7 +214,7 @@ fn question_faults_together() -> Vec<Call> {
 }
 
 /// A cut part for each of the numbers 1, 2, 6 and 9, and a good one.
-fn bad_parts() -> Vec<Vec<u8>> {
+pub fn bad_parts() -> Vec<Vec<u8>> {
     let fields = cut_fields(&cuts_of(&CUTS));
     let with = |place: usize, value: u64| {
         let mut fields = fields.clone();

@@ -75,7 +75,7 @@ fn run_call(chance: &mut Chance, sheet: Vec<u8>, room: u32, short: usize) -> Cal
 }
 
 /// A list that is just long enough, longer, of an odd length, or too short.
-fn list(chance: &mut Chance, needed: usize, place: usize, short: usize) -> Slice {
+pub fn list(chance: &mut Chance, needed: usize, place: usize, short: usize) -> Slice {
     let length = if chance.percent(short) {
         match chance.below(4) {
             0 => needed.saturating_sub(1),
@@ -97,32 +97,45 @@ fn list(chance: &mut Chance, needed: usize, place: usize, short: usize) -> Slice
     slice(chance, content)
 }
 
-fn slice(chance: &mut Chance, content: Vec<u8>) -> Slice {
+pub fn slice(chance: &mut Chance, content: Vec<u8>) -> Slice {
     let side = chance.pick(&[Side::Front, Side::Back, Side::Back, Side::Middle]);
     Slice { content, side, canary: chance.next(), null: chance.percent(50) }
 }
 
 /// What of a question is spoiled.
 #[derive(Clone, Copy, Default)]
-struct Faults {
+pub struct Faults {
     given: bool,
     inner: bool,
     differs: bool,
     cuts: bool,
-    states: bool,
-    list: bool,
+    pub asked: bool,
+    pub list: bool,
+}
+
+impl Faults {
+    fn any(&self) -> bool {
+        self.given || self.inner || self.differs || self.cuts || self.asked || self.list
+    }
 }
 
 pub fn any_question(chance: &mut Chance) -> Call {
     let faults = any_faults(chance);
-    let good = !(faults.given || faults.inner || faults.differs || faults.cuts || faults.states || faults.list);
-    let model = if good { any_model(chance) } else { small_model(chance) };
+    let model = model_for(chance, faults);
     let cuts = any_cuts(chance, &model);
     question_call(chance, &model, &cuts, faults)
 }
 
+pub fn model_for(chance: &mut Chance, faults: Faults) -> Model {
+    if faults.any() {
+        small_model(chance)
+    } else {
+        any_model(chance)
+    }
+}
+
 /// None, one, or each with even chances.
-fn any_faults(chance: &mut Chance) -> Faults {
+pub fn any_faults(chance: &mut Chance) -> Faults {
     let mut faults = Faults::default();
     match chance.below(20) {
         0..=7 => {}
@@ -130,14 +143,14 @@ fn any_faults(chance: &mut Chance) -> Faults {
         9..=10 => faults.inner = true,
         11 => faults.differs = true,
         12..=14 => faults.cuts = true,
-        15 => faults.states = true,
+        15 => faults.asked = true,
         16 => faults.list = true,
         _ => {
             faults.given = chance.percent(15);
             faults.inner = chance.percent(25);
             faults.differs = chance.percent(35);
             faults.cuts = chance.percent(50);
-            faults.states = chance.percent(50);
+            faults.asked = chance.percent(50);
             faults.list = chance.percent(50);
         }
     }
@@ -160,6 +173,19 @@ pub fn any_cuts(chance: &mut Chance, model: &Model) -> Vec<Cut> {
 }
 
 fn question_call(chance: &mut Chance, model: &Model, cuts: &[Cut], faults: Faults) -> Call {
+    let (given, cut_sheet) = two_sheets(chance, model, cuts, faults);
+    let (states, count) = if faults.asked { wrong_states(chance, model) } else { good_states(chance, model) };
+    let estimates = list(chance, count * 4, 4, if faults.list { 100 } else { 0 });
+    Call::Question {
+        model: slice(chance, given),
+        cut_sheet: slice(chance, cut_sheet),
+        states: slice(chance, states),
+        estimates,
+    }
+}
+
+/// The model sheet and the cut sheet.
+pub fn two_sheets(chance: &mut Chance, model: &Model, cuts: &[Cut], faults: Faults) -> (Vec<u8>, Vec<u8>) {
     let given = if faults.given { damaged_sheet(chance, model) } else { write_sheet(model) };
     let inner_model = if faults.differs { differing(chance, model) } else { model.clone() };
     let inner = match (faults.inner, chance.below(4)) {
@@ -170,14 +196,7 @@ fn question_call(chance: &mut Chance, model: &Model, cuts: &[Cut], faults: Fault
     let part = if faults.cuts { damaged_cut_part(chance, model, cuts) } else { write_cut_part(cuts) };
     // a sheet cut off inside its model has no cut part after it
     let cut_sheet = if faults.inner && chance.percent(30) { inner } else { [inner, part].concat() };
-    let (states, count) = if faults.states { wrong_states(chance, model) } else { good_states(chance, model) };
-    let estimates = list(chance, count * 4, 4, if faults.list { 100 } else { 0 });
-    Call::Question {
-        model: slice(chance, given),
-        cut_sheet: slice(chance, cut_sheet),
-        states: slice(chance, states),
-        estimates,
-    }
+    (given, cut_sheet)
 }
 
 /// The whole cut sheet ends somewhere.
