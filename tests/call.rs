@@ -1,4 +1,4 @@
-//! A call of one of the two entries, with everything that is lent for it.
+//! A call of one of the entries, with everything that is lent for it.
 
 use crate::lent::Side;
 
@@ -21,4 +21,5 @@ impl Slice {
 pub enum Call {
     Run { sheet: Slice, room: u32, cuts: Slice, rows: Slice },
     Question { model: Slice, cut_sheet: Slice, states: Slice, estimates: Slice },
+    Replay { model: Slice, cut_sheet: Slice, log: Slice, rows: Slice },
 }

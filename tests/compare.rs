@@ -1,8 +1,8 @@
-//! Compares the product's two C entries with the independent planner.
+//! Compares the product's C entries with the independent planner.
 //!
 //!     compare [SEED] [CALLS] [FIRST]
 //!
-//! First the paper's examples and one small model from end to end, then CALLS calls by SEED, from call FIRST on.
+//! First the papers' examples and one small model from end to end, then CALLS calls by SEED, from call FIRST on.
 //! Compared are the answer, every byte of every slice, and the bytes around them. A difference is printed with its
 //! seed and call; `compare SEED 1 CALL` shows that call again.
 
@@ -11,6 +11,7 @@ mod chance;
 mod counts;
 mod damage;
 mod every;
+mod every_log;
 mod examples;
 mod judge;
 mod laws;
@@ -18,6 +19,7 @@ mod lent;
 mod making;
 mod planner;
 mod product;
+mod replaying;
 mod shapes;
 mod tally;
 mod watch;
@@ -26,8 +28,10 @@ use call::{Call, Slice};
 use chance::Chance;
 use judge::{difference, judge, shown, Expected, Outcome};
 use planner::blocks::Cut;
+use planner::entries::number;
 use planner::run::Answer;
-use planner::task::Model;
+use planner::sheet::{write_cut_sheet, write_sheet};
+use planner::task::{Model, State, Step};
 use planner::NO_WAY;
 use product::{Product, Seen};
 use tally::Tally;
@@ -70,7 +74,10 @@ fn main() {
         std::process::exit(1);
     }
     if first.is_none() && calls < tally::LEAST {
-        println!("left out: how often each answer is met ({calls} calls are too few to say, {} are enough)", tally::LEAST);
+        println!(
+            "left out: how often each answer is met ({calls} calls are too few to say, {} are enough)",
+            tally::LEAST
+        );
     }
     println!("compare: {} calls, 0 differences", compare.calls);
 }
@@ -87,10 +94,15 @@ impl Compare {
             watch::call(&format!("{number} of the small model's"));
             self.compared(call)?;
         }
+        for (number, call) in every_log::every_call().iter().enumerate() {
+            watch::call(&format!("{number} of the small models' replays"));
+            let (seen, expected) = self.compared(call)?;
+            self.replay_laws(call, &seen, &expected)?;
+        }
         Ok(())
     }
 
-    /// The paper's own figures, beside the independent planner's.
+    /// The papers' own figures, beside the independent planner's.
     fn example(&mut self, example: &examples::Example) -> Result<(), Difference> {
         let (seen, expected) = self.compared(&example.call)?;
         let mut good = seen.answer == example.answer;
@@ -103,7 +115,7 @@ impl Compare {
         if good {
             return Ok(());
         }
-        let words = format!("the paper's example '{}' comes out otherwise: {:#x}", example.name, seen.answer);
+        let words = format!("the example '{}' comes out otherwise: {:#x}", example.name, seen.answer);
         Err(Difference { words, call: example.call.clone() })
     }
 
@@ -115,9 +127,12 @@ impl Compare {
             println!("left out: lengths of 33 bits (no such memory)");
             return;
         };
-        let answers = product::vast_calls(&sheet, memory, beyond);
-        self.calls += 2;
-        if answers != (6, planner::entries::number(1, 1, 0, 0)) {
+        let step = Step { cost: 7, needs: vec![None], effects: vec![None] };
+        let model = Model { sizes: vec![1], start: vec![0], goal: vec![None], steps: vec![step] };
+        let mut answers = product::vast_runs(&sheet, memory, beyond);
+        answers.extend(product::vast_replays(&write_sheet(&model), &write_cut_sheet(&model, &[]), memory, beyond));
+        self.calls += answers.len() as u64;
+        if answers != [6, number(1, 1, 0, 0), 15, number(1, 0, 1, 0)] {
             println!("compare: lengths of 33 bits: {answers:?}");
             std::process::exit(1);
         }
@@ -162,8 +177,14 @@ impl Compare {
         if let Some(words) = wrong {
             return Err(Difference { words, call: call.clone() });
         }
+        if chance.percent(40) {
+            self.replay_laws(call, seen, expected)?;
+        }
         if let Outcome::Ran(model, run) = &expected.outcome {
             if model.columns() < 9 && chance.percent(25) {
+                if let Answer::Plan { steps, .. } = &run.answer {
+                    self.replay_plan(model, seen, run.cuts.len(), steps.len())?;
+                }
                 let value = match run.answer {
                     Answer::Plan { cost, .. } => cost,
                     Answer::Open { estimate } => estimate,
@@ -180,10 +201,11 @@ impl Compare {
     fn ask_after(&mut self, chance: &mut Chance, model: &Model, cuts: &[Cut], value: u64) -> Result<(), Difference> {
         let mut states = vec![model.start.clone()];
         states.extend((0..chance.below(20)).map(|_| shapes::random_state(chance, &model.sizes)));
-        let bytes: Vec<u8> = states.iter().flatten().map(|position| *position as u8).collect();
-        let (call, after) = self.asked(model, cuts, &bytes)?;
+        let sheet = Slice::plain(write_sheet(model));
+        let cut_sheet = |cuts: &[Cut]| Slice::plain(write_cut_sheet(model, cuts));
+        let (call, after) = self.asked(&sheet, &cut_sheet(cuts), &states)?;
         let fewer = chance.below(cuts.len() + 1);
-        let (_, before) = self.asked(model, &cuts[..fewer], &bytes)?;
+        let (_, before) = self.asked(&sheet, &cut_sheet(&cuts[..fewer]), &states)?;
         let wrong = if after[0] != value {
             Some(format!("the start's estimate is {}, the run's {value}", after[0]))
         } else {
@@ -193,24 +215,64 @@ impl Compare {
         wrong.map_or(Ok(()), |words| Err(Difference { words, call }))
     }
 
-    fn asked(&mut self, model: &Model, cuts: &[Cut], states: &[u8]) -> Result<(Call, Vec<u64>), Difference> {
+    /// The product's plan, replayed after the cuts that the product listed with it: each step wins what it costs.
+    fn replay_plan(&mut self, model: &Model, ran: &Seen, cuts: usize, steps: usize) -> Result<(), Difference> {
+        let log = words_of(&ran.slices[2]).chunks(3).take(steps).flat_map(|row| row[0].to_be_bytes()).collect();
+        let call = Call::Replay {
+            model: Slice::plain(write_sheet(model)),
+            cut_sheet: Slice::plain(write_cut_sheet(model, &run_cuts(ran, cuts))),
+            log: Slice::plain(log),
+            rows: Slice::plain(vec![0x77; steps * 12]),
+        };
+        let (seen, expected) = self.compared(&call)?;
+        self.replay_laws(&call, &seen, &expected)?;
+        if said_rows(&seen, steps).iter().all(|[paid, won, detour]| paid == won && *detour == 0) {
+            return Ok(());
+        }
+        Err(Difference { words: "a plan with a detour after its own cuts".to_string(), call })
+    }
+
+    /// What order 7 says of the rows that the product wrote, by the product's own estimates.
+    fn replay_laws(&mut self, call: &Call, seen: &Seen, expected: &Expected) -> Result<(), Difference> {
+        let (Outcome::Replayed(model, replay), Call::Replay { model: sheet, cut_sheet, .. }) =
+            (&expected.outcome, call)
+        else {
+            return Ok(());
+        };
+        let mut estimates = Vec::new();
+        // no question takes more states
+        for states in replay.states.chunks(64) {
+            estimates.extend(self.asked(sheet, cut_sheet, states)?.1);
+        }
+        let wrong = laws::wrong_rows(model, replay, &estimates, &said_rows(seen, replay.rows.len()));
+        wrong.map_or(Ok(()), |words| Err(Difference { words, call: call.clone() }))
+    }
+
+    fn asked(&mut self, model: &Slice, cut_sheet: &Slice, states: &[State]) -> Result<(Call, Vec<u64>), Difference> {
         let call = Call::Question {
-            model: Slice::plain(planner::sheet::write_sheet(model)),
-            cut_sheet: Slice::plain(planner::sheet::write_cut_sheet(model, cuts)),
-            states: Slice::plain(states.to_vec()),
-            estimates: Slice::plain(vec![0x77; states.len() / model.columns() * 4]),
+            model: model.clone(),
+            cut_sheet: cut_sheet.clone(),
+            states: Slice::plain(states.iter().flatten().map(|position| *position as u8).collect()),
+            estimates: Slice::plain(vec![0x77; states.len() * 4]),
         };
         let (seen, _) = self.compared(&call)?;
-        let values =
-            seen.slices[3].chunks(4).map(|value| value.iter().fold(0, |all, byte| all * 256 + u64::from(*byte)));
-        let values = values.collect();
+        let values = words_of(&seen.slices[3]).iter().map(|value| u64::from(*value)).collect();
         Ok((call, values))
     }
 }
 
+/// The values of a list of the product's.
+fn words_of(bytes: &[u8]) -> Vec<u32> {
+    bytes.chunks_exact(4).map(|word| u32::from_be_bytes([word[0], word[1], word[2], word[3]])).collect()
+}
+
+/// The rows as the product's bytes have them.
+fn said_rows(seen: &Seen, count: usize) -> Vec<laws::Said> {
+    let values: Vec<i64> = words_of(&seen.slices[3]).iter().map(|value| i64::from(*value as i32)).collect();
+    values.chunks_exact(3).take(count).map(|row| [row[0], row[1], row[2]]).collect()
+}
+
 /// The cuts as the product's bytes have them.
 fn run_cuts(seen: &Seen, count: usize) -> Vec<Cut> {
-    let word = |bytes: &[u8]| u32::from_be_bytes([bytes[0], bytes[1], bytes[2], bytes[3]]);
-    let values: Vec<u32> = seen.slices[1].chunks_exact(4).take(count * 3).map(word).collect();
-    examples::cuts_of(&values)
+    examples::cuts_of(&words_of(&seen.slices[1])[..count * 3])
 }

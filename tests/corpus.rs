@@ -12,9 +12,10 @@ mod damage;
 mod lent;
 mod making;
 mod planner;
+mod replaying;
 mod shapes;
 
-use call::Call;
+use call::{Call, Slice};
 use chance::Chance;
 
 /// Longer inputs take long and show little.
@@ -44,23 +45,27 @@ fn encoded(call: &Call) -> Option<Vec<u8>> {
             let head = [slack(cuts.content.len())? as u8, slack(rows.content.len())? as u8];
             Some([&[0][..], &room.to_be_bytes(), &head, &sheet.content].concat())
         }
-        Call::Question { model, cut_sheet, states, estimates } => {
-            let lengths = [model.content.len(), states.content.len(), estimates.content.len()];
-            let mut bytes = vec![1];
-            for length in lengths {
-                bytes.extend(u16::try_from(length).ok()?.to_be_bytes());
-            }
-            bytes.extend(&model.content);
-            bytes.extend(&states.content);
-            match cut_sheet.content.strip_prefix(&model.content[..]) {
-                Some(part) => bytes.extend(part),
-                // the cut sheet's model is another one: it stands there by itself
-                None => {
-                    bytes[0] |= 2;
-                    bytes.extend(&cut_sheet.content);
-                }
-            }
-            Some(bytes)
+        Call::Question { model, cut_sheet, states, estimates } => encoded_four(1, model, cut_sheet, states, estimates),
+        Call::Replay { model, cut_sheet, log, rows } => encoded_four(2, model, cut_sheet, log, rows),
+    }
+}
+
+/// A question or a replay: which, the two sheets, states or log, and a list.
+fn encoded_four(which: u8, model: &Slice, cut_sheet: &Slice, asked: &Slice, list: &Slice) -> Option<Vec<u8>> {
+    let lengths = [model.content.len(), asked.content.len(), list.content.len()];
+    let mut bytes = vec![which];
+    for length in lengths {
+        bytes.extend(u16::try_from(length).ok()?.to_be_bytes());
+    }
+    bytes.extend(&model.content);
+    bytes.extend(&asked.content);
+    match cut_sheet.content.strip_prefix(&model.content[..]) {
+        Some(part) => bytes.extend(part),
+        // the cut sheet's model is another one: it stands there by itself
+        None => {
+            bytes[0] |= 16;
+            bytes.extend(&cut_sheet.content);
         }
     }
+    Some(bytes)
 }

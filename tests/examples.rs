@@ -1,4 +1,5 @@
-//! The paper's marked examples, with the figures as the paper has them, and the chain with the largest distance.
+//! The paper's marked examples, with the figures as the paper has them, the chain with the largest distance, and worked
+//! replays.
 
 use crate::call::{Call, Slice};
 use crate::planner::blocks::{of_weight, Cut};
@@ -51,6 +52,18 @@ fn free_steps() -> Model {
     Model { sizes: vec![2], start: vec![0], goal: vec![Some(1)], steps }
 }
 
+/// The small re-thread with a web that may tear (step 4); it is cleared away (step 5), and nothing mends it.
+pub fn torn_web() -> Model {
+    let mut model = small_rethread();
+    model.sizes[1] = 4;
+    model.steps.push(step(5, &[Some(1), Some(1)], &[None, Some(3)]));
+    model.steps.push(step(7, &[None, Some(3)], &[Some(0), None]));
+    model
+}
+
+/// The threaded web by itself, and the torn one.
+pub const TORN_CUTS: [u32; 6] = [0, 1, 4, 0, 1, 8];
+
 /// The small re-thread's cuts with room 5.
 pub const CUTS: [u32; 12] = [0, 1, 4, 0, 0, 2, 2, 1, 2, 0, 1, 2];
 
@@ -69,6 +82,9 @@ pub fn examples() -> Vec<Example> {
     list.extend(chains());
     list.extend(refused_runs());
     list.extend(questions());
+    list.extend(replays());
+    list.extend(far_replays());
+    list.extend(refused_replays());
     list
 }
 
@@ -164,5 +180,94 @@ fn questions() -> Vec<Example> {
         asked("estimates", &CUTS, vec![1, 0, 0, 1, 0, 2], 0, vec![110, 70, 0]),
         asked("no states", &CUTS, vec![], 0, vec![]),
         asked("a cut with the block's full set", &[0, 1, 7], vec![0, 0], 9, vec![]),
+    ]
+}
+
+fn replayed(name: &str, model: &Model, cuts: &[u32], log: &[u32], answer: u64, rows: &[i32]) -> Example {
+    let log: Vec<u8> = log.iter().flat_map(|number| number.to_be_bytes()).collect();
+    Example {
+        name: name.to_string(),
+        call: Call::Replay {
+            model: Slice::plain(write_sheet(model)),
+            cut_sheet: Slice::plain(write_cut_sheet(model, &cuts_of(cuts))),
+            rows: Slice::plain(vec![0xa5; log.len() * 3 + 11]),
+            log: Slice::plain(log),
+        },
+        answer,
+        values: vec![vec![], vec![], vec![], rows.iter().map(|value| *value as u32).collect()],
+    }
+}
+
+fn done(rows: u64) -> u64 {
+    number(1, 0, rows, 0)
+}
+
+const DASH: i32 = 16_777_215;
+
+/// The first is order 7's own; the others follow from the paper's estimates.
+fn replays() -> Vec<Example> {
+    let model = small_rethread();
+    let torn = torn_web();
+    let torn_rows = [30, 0, 30, 20, 0, 20, 5, DASH, DASH, 7, DASH, DASH, 20, DASH, DASH];
+    let whole_rows = [30, 0, 30, 20, 0, 20, 5, 0, 5, 7, 0, 7];
+    let mut torn_start = torn_web();
+    torn_start.start[1] = 3;
+    vec![
+        replayed("log 0, 1, 2", &model, &CUTS, &[0, 1, 2], done(3), &[20, -10, 30, 10, 10, 0, 30, 30, 0]),
+        replayed("the plan's own log", &model, &CUTS, &[2, 0, 3], done(3), &[30, 30, 0, 20, 20, 0, 50, 50, 0]),
+        replayed("no cuts: no ground to win", &model, &[], &[0, 1], done(2), &[20, 0, 20, 10, 0, 10]),
+        replayed("an empty log", &model, &CUTS, &[], done(0), &[]),
+        replayed("a web that tears", &torn, &TORN_CUTS, &[2, 0, 4, 5, 0], done(5), &torn_rows),
+        replayed("the same in one block", &torn, &[], &[2, 0, 4, 5], done(4), &whole_rows),
+        replayed("torn at the start", &torn_start, &TORN_CUTS, &[0, 5], done(2), &[20, DASH, DASH, 7, DASH, DASH]),
+        replayed("no tape, no way", &without_tape(), &CUTS, &[0, 1], done(2), &[20, DASH, DASH, 10, DASH, DASH]),
+    ]
+}
+
+/// Every state of the chain of 256 in a block of its own.
+fn chain_cuts() -> Vec<u32> {
+    let mut cuts: Vec<u32> = (1..32).flat_map(|position| [0, 0, 1 << position]).collect();
+    cuts.extend((0..32).flat_map(|block| (1..8).flat_map(move |position| [block, 1, 1 << position])));
+    cuts
+}
+
+/// Won and detour at both ends: from the chain's end back to its first state, and forward again.
+fn far_replays() -> Vec<Example> {
+    let mut model = chain(32, 8);
+    model.start = vec![31, 7];
+    model.steps.push(step(65_535, &[None, None], &[Some(0), Some(0)]));
+    let back = model.steps.len() as u32 - 1;
+    let forward = (0..8).flat_map(|high| (0..31).chain([31 + high]));
+    let log: Vec<u32> = [back].into_iter().chain(forward.take(254)).collect();
+    let mut rows = vec![65_535, -16_711_425, 16_776_960];
+    rows.extend((0..254).flat_map(|_| [65_535, 65_535, 0]));
+    let mut free = model.clone();
+    free.steps[back as usize].cost = 0;
+    vec![
+        replayed("from the end of the chain and back", &model, &chain_cuts(), &log, done(255), &rows),
+        replayed("back for nothing", &free, &chain_cuts(), &[back], done(1), &[0, -16_711_425, 16_711_425]),
+    ]
+}
+
+fn refused_replays() -> Vec<Example> {
+    let model = small_rethread();
+    let refused = |name: &str, log: &[u32], answer| replayed(name, &model, &CUTS, log, answer, &[]);
+    let in_row = |row| number(0, 0, row, 14);
+    let walk: Vec<u32> = (0..256).map(|row| row % 2).collect();
+    let mut short = replayed("two places for three steps", &model, &CUTS, &[0, 1, 2], 8, &[]);
+    if let Call::Replay { rows, .. } = &mut short.call {
+        rows.content.truncate(35);
+    }
+    vec![
+        refused("step 4 of 4", &[4], in_row(1)),
+        refused("step 300", &[0, 300, 2], in_row(2)),
+        refused("step 256 is not step 0", &[256], in_row(1)),
+        refused("step 2^32 - 1", &[0, 1, u32::MAX], in_row(3)),
+        refused("a step that cannot be taken", &[0, 1, 2, 3], in_row(4)),
+        refused("the first of two bad rows", &[1, 300], in_row(1)),
+        refused("256 steps", &walk, 15),
+        refused("256 steps, the first unknown", &[&[300], &walk[1..]].concat(), 15),
+        replayed("a cut with the block's full set, and a bad row", &model, &[0, 1, 7], &[300], 9, &[]),
+        short,
     ]
 }

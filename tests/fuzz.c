@@ -1,11 +1,12 @@
-/* The fuzz target over both C entries, with the independent planner beside.
+/* The fuzz target over the C entries, with the independent planner beside.
  *
  * An input is a call:
  *   run       0, room (4 bytes), slack of cuts and of rows (1 byte each, signed), then the sheet
- *   question  1, lengths of model, states and estimates (2 bytes each), then model, states and cut part;
- *             3: the same, but the rest is the whole cut sheet
- * The lowest two bits of the first byte say which; the next two say where the lent memory lies: before a page that
- * faults, after one, or in a heap block of exactly its size, which AddressSanitizer and valgrind watch.
+ *   question  1, lengths of model, states and estimates (2 bytes each), then model, states and cut part
+ *   replay    2, lengths of model, log and rows (2 bytes each), then model, log and cut part
+ * The lowest two bits of the first byte say which (3 is a replay too); the next two say where the lent memory lies: before
+ * a page that faults, after one, or in a heap block of exactly its size, which AddressSanitizer and valgrind watch. With
+ * the fifth bit (16) the rest of a question or of a replay is the whole cut sheet.
  *
  * With -fsanitize=fuzzer this is a target for libFuzzer. With -DDRIVER it has a main of its own that goes through the
  * files it is given and then through changed ones by seed: driver [heap] [alone] SEED ROUNDS FILE..
@@ -26,10 +27,14 @@ uint64_t elhavir_run(const uint8_t *sheet, size_t sheet_len, uint32_t room, uint
                      uint8_t *rows, size_t rows_len);
 uint32_t elhavir_question(const uint8_t *model, size_t model_len, const uint8_t *cut_sheet, size_t cut_sheet_len,
                           const uint8_t *states, size_t states_len, uint8_t *estimates, size_t estimates_len);
+uint64_t elhavir_replay(const uint8_t *model, size_t model_len, const uint8_t *cut_sheet, size_t cut_sheet_len,
+                        const uint8_t *log, size_t log_len, uint8_t *rows, size_t rows_len);
 uint64_t judge_run(const uint8_t *sheet, size_t sheet_len, uint32_t room, uint8_t *cuts, size_t cuts_len,
                    uint8_t *rows, size_t rows_len);
 uint32_t judge_question(const uint8_t *model, size_t model_len, const uint8_t *cut_sheet, size_t cut_sheet_len,
                         const uint8_t *states, size_t states_len, uint8_t *estimates, size_t estimates_len);
+uint64_t judge_replay(const uint8_t *model, size_t model_len, const uint8_t *cut_sheet, size_t cut_sheet_len,
+                      const uint8_t *log, size_t log_len, uint8_t *rows, size_t rows_len);
 
 enum { PAGE = 4096, SIZE = 4 * PAGE, SLICES = 4, LONGEST = 6000, CANARY = 0xc5 };
 enum where { BEFORE_GUARD, AFTER_GUARD, HEAP };
@@ -45,7 +50,8 @@ struct slice {
 
 static struct slice slices[SLICES];
 static int heap, alone;
-static unsigned long calls; /* of an entry; an input too short to be a call makes none */
+enum entry { RUN, QUESTION, REPLAY, ENTRIES };
+static unsigned long calls[ENTRIES]; /* an input too short to be a call makes none */
 
 static void guard(struct slice *slice) {
     uint8_t *whole = mmap(NULL, SIZE + 2 * PAGE, PROT_NONE, MAP_PRIVATE | MAP_ANONYMOUS, -1, 0);
@@ -112,7 +118,7 @@ static void put_list(struct slice *slice, size_t length) {
 
 static void one_run(const uint8_t *data, size_t size, enum where where) {
     if (size < 7) return;
-    calls++;
+    calls[RUN]++;
     uint32_t room = (uint32_t)number(data + 1, 4);
     long needed = (long)((room - 1) & 255) * 12;
     long cuts = needed + (int8_t)data[5], rows = needed + (int8_t)data[6];
@@ -133,24 +139,30 @@ static void one_run(const uint8_t *data, size_t size, enum where where) {
     give_back(row_list, alone ? NULL : row_list->bytes, "rows");
 }
 
-static void one_question(const uint8_t *data, size_t size, enum where where) {
-    if (size < 7) return;
-    calls++;
-    struct slice *model = &slices[0], *cut_sheet = &slices[1], *states = &slices[2], *list = &slices[3];
+/* The four slices of a question or of a replay: model, cut sheet, states or log, and a list. */
+static void lend_four(const uint8_t *data, size_t size, enum where where) {
+    struct slice *model = &slices[0], *cut_sheet = &slices[1], *asked = &slices[2], *list = &slices[3];
     const uint8_t *rest = data + 7;
-    size_t left = size - 7, model_len = number(data + 1, 2), states_len = number(data + 3, 2);
+    size_t left = size - 7, model_len = number(data + 1, 2), asked_len = number(data + 3, 2);
     if (model_len > left) model_len = left;
     put(model, rest, model_len);
     rest += model_len, left -= model_len;
-    if (states_len > left) states_len = left;
-    put(states, rest, states_len);
-    rest += states_len, left -= states_len;
-    size_t copied = data[0] & 2 ? 0 : model_len;
+    if (asked_len > left) asked_len = left;
+    put(asked, rest, asked_len);
+    rest += asked_len, left -= asked_len;
+    size_t copied = data[0] & 16 ? 0 : model_len;
     memcpy(cut_sheet->bytes, model->bytes, copied);
     memcpy(cut_sheet->bytes + copied, rest, left);
     cut_sheet->length = copied + left;
-    put_list(list, number(data + 5, 2) % 1024);
+    put_list(list, number(data + 5, 2) % PAGE);
     for (int place = 0; place < 4; place++) lend(&slices[place], where);
+}
+
+static void one_question(const uint8_t *data, size_t size, enum where where) {
+    if (size < 7) return;
+    calls[QUESTION]++;
+    lend_four(data, size, where);
+    struct slice *model = &slices[0], *cut_sheet = &slices[1], *states = &slices[2], *list = &slices[3];
     uint32_t seen = elhavir_question(model->lent, model->length, cut_sheet->lent, cut_sheet->length, states->lent,
                                      states->length, list->lent, list->length);
     give_back(model, model->bytes, "model");
@@ -164,13 +176,32 @@ static void one_question(const uint8_t *data, size_t size, enum where where) {
     give_back(list, alone ? NULL : list->bytes, "estimates");
 }
 
+static void one_replay(const uint8_t *data, size_t size, enum where where) {
+    if (size < 7) return;
+    calls[REPLAY]++;
+    lend_four(data, size, where);
+    struct slice *model = &slices[0], *cut_sheet = &slices[1], *log = &slices[2], *rows = &slices[3];
+    uint64_t seen = elhavir_replay(model->lent, model->length, cut_sheet->lent, cut_sheet->length, log->lent,
+                                   log->length, rows->lent, rows->length);
+    give_back(model, model->bytes, "model");
+    give_back(cut_sheet, cut_sheet->bytes, "cut sheet");
+    give_back(log, log->bytes, "log");
+    if (!alone) {
+        uint64_t expected = judge_replay(model->bytes, model->length, cut_sheet->bytes, cut_sheet->length, log->bytes,
+                                         log->length, rows->bytes, rows->length);
+        if (seen != expected) fail("answer of a replay", seen, expected);
+    }
+    give_back(rows, alone ? NULL : rows->bytes, "rows");
+}
+
 int LLVMFuzzerTestOneInput(const uint8_t *data, size_t size) {
     if (size < 1 || size > LONGEST) return 0;
     enum where where = heap ? HEAP : (enum where)((data[0] >> 2 & 3) % 3);
-    if (data[0] & 1)
-        one_question(data, size, where);
-    else
-        one_run(data, size, where);
+    switch (data[0] & 3) {
+    case 0: one_run(data, size, where); break;
+    case 1: one_question(data, size, where); break;
+    default: one_replay(data, size, where);
+    }
     return 0;
 }
 
@@ -247,7 +278,8 @@ int main(int count, char **words) {
         change();
         LLVMFuzzerTestOneInput(input, input_size);
     }
-    printf("fuzz: %lu calls, %s\n", calls, alone ? "not compared" : "0 differences");
-    return calls == 0;
+    printf("fuzz: %lu runs, %lu questions, %lu replays, %s\n", calls[RUN], calls[QUESTION], calls[REPLAY],
+           alone ? "not compared" : "0 differences");
+    return calls[RUN] == 0 || calls[QUESTION] == 0 || calls[REPLAY] == 0;
 }
 #endif

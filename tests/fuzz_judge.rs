@@ -1,10 +1,10 @@
-//! The independent planner as a static library for the fuzz target: the same two entries under other names.
+//! The independent planner as a static library for the fuzz target: the same entries under other names.
 
 #![allow(dead_code)] // the modules are shared with the other tests
 
 mod planner;
 
-use planner::entries::{question_entry, run_entry};
+use planner::entries::{question_entry, replay_entry, run_entry};
 use std::slice::{from_raw_parts, from_raw_parts_mut};
 
 /// # Safety
@@ -34,6 +34,22 @@ pub unsafe extern "C" fn judge_question(
         from_raw_parts(cut_sheet, cut_sheet_len),
         from_raw_parts(states, states_len),
         from_raw_parts_mut(estimates, estimates_len),
+    )
+    .0
+}
+
+/// # Safety
+/// The pointers and lengths are those of slices that do not overlap.
+#[no_mangle]
+pub unsafe extern "C" fn judge_replay(
+    model: *const u8, model_len: usize, cut_sheet: *const u8, cut_sheet_len: usize, log: *const u8, log_len: usize,
+    rows: *mut u8, rows_len: usize,
+) -> u64 {
+    replay_entry(
+        from_raw_parts(model, model_len),
+        from_raw_parts(cut_sheet, cut_sheet_len),
+        from_raw_parts(log, log_len),
+        from_raw_parts_mut(rows, rows_len),
     )
     .0
 }

@@ -1,7 +1,8 @@
 //! A call as the independent planner answers it, and what differs from the product's answer.
 
 use crate::call::{Call, Slice};
-use crate::planner::entries::{question_entry, run_entry};
+use crate::planner::entries::{question_entry, replay_entry, run_entry};
+use crate::planner::replay::Replay;
 use crate::planner::run::Run;
 use crate::planner::task::Model;
 use crate::planner::Refusal;
@@ -11,6 +12,7 @@ pub enum Outcome {
     Refused(Refusal),
     Ran(Model, Run),
     Asked(Model, Vec<u64>),
+    Replayed(Model, Replay),
 }
 
 pub struct Expected {
@@ -33,6 +35,13 @@ pub fn judge(call: &Call) -> Expected {
             let outcome = result.map_or_else(Outcome::Refused, |(model, values)| Outcome::Asked(model, values));
             let inputs = [model, cut_sheet, states].map(|slice| slice.content.clone());
             Expected { answer: u64::from(answer), slices: [&inputs[..], &[list]].concat(), outcome }
+        }
+        Call::Replay { model, cut_sheet, log, rows } => {
+            let mut list = rows.content.clone();
+            let (answer, result) = replay_entry(&model.content, &cut_sheet.content, &log.content, &mut list);
+            let outcome = result.map_or_else(Outcome::Refused, |(model, replay)| Outcome::Replayed(model, replay));
+            let inputs = [model, cut_sheet, log].map(|slice| slice.content.clone());
+            Expected { answer, slices: [&inputs[..], &[list]].concat(), outcome }
         }
     }
 }
@@ -64,17 +73,20 @@ fn names(call: &Call) -> Vec<&'static str> {
     match call {
         Call::Run { .. } => vec!["sheet", "cuts", "rows"],
         Call::Question { .. } => vec!["model", "cut sheet", "states", "estimates"],
+        Call::Replay { .. } => vec!["model", "cut sheet", "log", "rows"],
     }
 }
 
 fn taken_apart(call: &Call, answer: u64) -> String {
-    let Call::Run { .. } = call else { return format!("{answer}") };
     let (blocks, steps, value) = (answer >> 44 & 0xfff, answer >> 32 & 0xfff, answer & 0xffff_ffff);
-    match answer >> 56 {
-        0 if answer < 12 => format!("refused {answer}"),
-        1 => format!("plan {value} steps {steps} blocks {blocks}"),
-        2 if value == 0 && steps == 0 => format!("no plan blocks {blocks}"),
-        3 if steps == 0 => format!("open {value} blocks {blocks}"),
+    match (call, answer >> 56) {
+        (Call::Question { .. }, _) => format!("{answer}"),
+        (_, 0) if answer < 16 => format!("refused {answer}"),
+        (Call::Run { .. }, 1) => format!("plan {value} steps {steps} blocks {blocks}"),
+        (Call::Run { .. }, 2) if value == 0 && steps == 0 => format!("no plan blocks {blocks}"),
+        (Call::Run { .. }, 3) if steps == 0 => format!("open {value} blocks {blocks}"),
+        (Call::Replay { .. }, 0) if blocks == 0 => format!("refused {value} in row {steps}"),
+        (Call::Replay { .. }, 1) if blocks == 0 && value == 0 => format!("done, {steps} rows"),
         _ => format!("{answer:#018x}"),
     }
 }
@@ -92,6 +104,13 @@ pub fn shown(call: &Call) -> String {
             shown_bytes(cut_sheet),
             shown_bytes(states),
             shown_list("estimates", estimates)
+        ),
+        Call::Replay { model, cut_sheet, log, rows } => format!(
+            "elhavir_replay\n  model {}\n  cut sheet {}\n  log {}\n{}",
+            shown_bytes(model),
+            shown_bytes(cut_sheet),
+            shown_bytes(log),
+            shown_list("rows", rows)
         ),
     }
 }

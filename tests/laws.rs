@@ -1,6 +1,7 @@
 //! What an answer has to be by the planning task itself, with no block and no cut in it.
 
 use crate::planner::blocks::{acceptable, make_cut, whole};
+use crate::planner::replay::{Replay, DASH};
 use crate::planner::run::{run_by_columns, Answer, Run};
 use crate::planner::search::{cheapest_plan, cheapest_plans, PAIRS, STATES};
 use crate::planner::task::Model;
@@ -79,6 +80,72 @@ pub fn wrong_estimates(model: &Model, states: &[u8], estimates: &[u64]) -> Optio
         let state: Vec<usize> = state.iter().map(|byte| usize::from(*byte)).collect();
         if real[model.number_of(&state)].is_some_and(|real| *estimate == NO_WAY || *estimate > real) {
             return Some(format!("the estimate {estimate} of {state:?} is above a plan's cost"));
+        }
+    }
+    None
+}
+
+/// A row as its bytes have it: paid, won, detour.
+pub type Said = [i64; 3];
+
+/// What order 7 says of a replay's rows. The estimates are a question's, of the states before the first row and after each.
+pub fn wrong_rows(model: &Model, replay: &Replay, estimates: &[u64], rows: &[Said]) -> Option<String> {
+    // rows before the first dash
+    let figures = rows.iter().position(|row| row[1] == DASH).unwrap_or(rows.len());
+    wrong_figures(&rows[..figures])
+        .or_else(|| wrong_dashes(estimates, rows, figures))
+        .or_else(|| wrong_sums(estimates, &rows[..figures]))
+        .or_else(|| wrong_ground(model, replay, rows, figures))
+}
+
+/// A detour is what was paid and not won, and is never below zero.
+fn wrong_figures(rows: &[Said]) -> Option<String> {
+    let wrong = rows.iter().position(|[paid, won, detour]| *detour < 0 || *detour == DASH || paid - won != *detour)?;
+    Some(format!("row {} says {:?}", wrong + 1, rows[wrong]))
+}
+
+/// Dashes begin with the first row whose state before or after has no way, and go on to the last.
+fn wrong_dashes(estimates: &[u64], rows: &[Said], figures: usize) -> Option<String> {
+    let lost = |row: &usize| estimates[*row] == NO_WAY || estimates[row + 1] == NO_WAY;
+    let first = (0..rows.len()).find(lost).unwrap_or(rows.len());
+    if first != figures {
+        return Some(format!("dashes from row {}, expected from row {}", figures + 1, first + 1));
+    }
+    let ended = rows[figures..].iter().position(|row| row[1..] != [DASH, DASH])?;
+    Some(format!("row {} has no dashes, after a row with them", figures + ended + 1))
+}
+
+/// The won figures of any stretch without a dash add up to the estimate before its first row less the one after its last.
+fn wrong_sums(estimates: &[u64], rows: &[Said]) -> Option<String> {
+    for first in 0..rows.len() {
+        let mut won = 0;
+        for last in first..rows.len() {
+            won += rows[last][1];
+            if won != estimates[first] as i64 - estimates[last + 1] as i64 {
+                return Some(format!("rows {} to {} win {won}", first + 1, last + 1));
+            }
+        }
+    }
+    None
+}
+
+/// With no block and no cut in it: rows that end in a goal state win no more than the cheapest plan costs, and no plan
+/// leads on from a row with dashes.
+fn wrong_ground(model: &Model, replay: &Replay, rows: &[Said], figures: usize) -> Option<String> {
+    if pairs(model) > PAIRS {
+        return None;
+    }
+    let real = cheapest_plans(model);
+    let least = |row: usize| real[model.number_of(&replay.states[row])];
+    if let Some(row) = (figures..rows.len()).find(|row| least(row + 1).is_some()) {
+        return Some(format!("dashes in row {}, and a plan leads on from it", row + 1));
+    }
+    let end = (0..=figures).rfind(|row| model.is_goal(&replay.states[*row]))?;
+    let mut won = 0;
+    for first in (0..end).rev() {
+        won += rows[first][1];
+        if least(first).is_none_or(|least| won > least as i64) {
+            return Some(format!("rows {} to {end} win {won} on the way to a goal state", first + 1));
         }
     }
     None

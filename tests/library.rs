@@ -20,6 +20,7 @@ mod lent;
 mod making;
 mod places;
 mod planner;
+mod replaying;
 mod shapes;
 mod tables;
 

@@ -9,13 +9,14 @@ use crate::planner::blocks::Cut;
 use crate::planner::run::run;
 use crate::planner::sheet::{write_cut_part, write_cut_sheet, write_sheet};
 use crate::planner::task::Model;
+use crate::replaying::any_replay;
 use crate::shapes::{any_model, random_state, small_model};
 
 pub fn any_call(chance: &mut Chance) -> Call {
-    if chance.percent(50) {
-        any_run(chance)
-    } else {
-        any_question(chance)
+    match chance.below(100) {
+        0..=27 => any_run(chance),
+        28..=55 => any_question(chance),
+        _ => any_replay(chance),
     }
 }
 
@@ -102,13 +103,14 @@ pub fn slice(chance: &mut Chance, content: Vec<u8>) -> Slice {
     Slice { content, side, canary: chance.next(), null: chance.percent(50) }
 }
 
-/// What of a question is spoiled.
+/// What of a question or of a replay is spoiled.
 #[derive(Clone, Copy, Default)]
 pub struct Faults {
     given: bool,
     inner: bool,
     differs: bool,
     cuts: bool,
+    /// The states of a question, the log of a replay.
     pub asked: bool,
     pub list: bool,
 }

@@ -11,6 +11,7 @@ mod examples;
 mod lent;
 mod making;
 mod planner;
+mod replaying;
 mod shapes;
 
 use chance::Chance;

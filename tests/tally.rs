@@ -1,11 +1,14 @@
-//! How often each answer of the two entries was met.
+//! How often each answer of the entries was met.
 
 use crate::call::Call;
 use crate::counts::{Met, Refusals, Row};
 use crate::judge::Outcome;
+use crate::planner::entries::log_steps;
+use crate::planner::replay::Replay;
 use crate::planner::run::{Answer, Kind, Run};
+use crate::planner::sheet::read_sheet;
 use crate::planner::task::Model;
-use crate::planner::{Part, NO_WAY};
+use crate::planner::{Part, Refusal, NO_WAY};
 
 /// Fewer calls by seed may miss an answer by chance, and say nothing of how often each is met.
 pub const LEAST: u64 = 5000;
@@ -19,21 +22,22 @@ pub struct Tally {
 /// Every refusal that each entry can give, by the part that gives it.
 fn possible() -> Vec<Row> {
     let mut list = Vec::new();
-    for number in 1..=6 {
-        list.push(("run", Part::Sheet, number));
-        list.push(("question", Part::Sheet, number));
-        list.push(("question", Part::Inner, number));
-    }
+    list.extend((1..=6).map(|number| ("run", Part::Sheet, number)));
     list.push(("run", Part::Room, 7));
-    list.push(("run", Part::Lists, 8));
-    list.push(("question", Part::Inner, 10));
-    list.extend([1, 2, 6, 9].map(|number| ("question", Part::Cuts, number)));
+    for entry in ["question", "replay"] {
+        list.extend((1..=6).map(|number| (entry, Part::Sheet, number)));
+        list.extend([1, 2, 3, 4, 5, 6, 10].map(|number| (entry, Part::Inner, number)));
+        list.extend([1, 2, 6, 9].map(|number| (entry, Part::Cuts, number)));
+    }
     list.push(("question", Part::States, 11));
-    list.push(("question", Part::Lists, 8));
+    list.extend([14, 15].map(|number| ("replay", Part::Log, number)));
+    list.extend(ENTRIES.map(|entry| (entry, Part::Lists, 8)));
     list
 }
 
-const OTHERS: [&str; 13] = [
+const ENTRIES: [&str; 3] = ["run", "question", "replay"];
+
+const OTHERS: &[&str] = &[
     "plan",
     "plan of no steps",
     "plan with a free step",
@@ -47,13 +51,37 @@ const OTHERS: [&str; 13] = [
     "divergence flaw",
     "estimate",
     "estimate: no way",
+    "replay of no rows",
+    "replay of 255 rows",
+    "replay with bytes behind its log",
+    "replay in a list with more places",
+    "row of a free step",
+    "won below zero",
+    "won zero",
+    "won above zero",
+    "detour zero",
+    "detour above zero",
+    "dashes",
+    "dashes from the first row on",
+    "dashes after figures",
+    "14 for a step that is not there",
+    "14 for a number that 8 bits would cut to a step",
+    "14 for a step that cannot be taken",
+    "14 in the first row",
+    "14 in a later row",
+    "14 in row 255",
+    "15 for 256 steps",
+    "15 for more",
+    "8 for a byte short of the rows",
 ];
 
 impl Tally {
     pub fn count(&mut self, call: &Call, outcome: &Outcome) {
-        let entry = if let Call::Run { .. } = call { "run" } else { "question" };
         match outcome {
-            Outcome::Refused(refusal) => self.refused.count(entry, refusal),
+            Outcome::Refused(refusal) => {
+                self.refused.count(entry_of(call), refusal);
+                self.count_refused_replay(call, refusal);
+            }
             Outcome::Ran(model, run) => {
                 let room = if let Call::Run { room, .. } = call { *room as usize } else { 0 };
                 self.count_run(model, run, room);
@@ -63,6 +91,7 @@ impl Tally {
                     self.met.meet(if *value == NO_WAY { "estimate: no way" } else { "estimate" });
                 }
             }
+            Outcome::Replayed(_, replay) => self.count_replay(call, replay),
         }
     }
 
@@ -84,11 +113,60 @@ impl Tally {
         }
     }
 
+    fn count_replay(&mut self, call: &Call, replay: &Replay) {
+        let Call::Replay { log, rows: list, .. } = call else { return };
+        let rows = &replay.rows;
+        self.met.meet_if(rows.is_empty(), "replay of no rows");
+        self.met.meet_if(rows.len() == 255, "replay of 255 rows");
+        self.met.meet_if(log.content.len() % 4 > 0, "replay with bytes behind its log");
+        self.met.meet_if(list.content.len() / 12 > rows.len(), "replay in a list with more places");
+        for row in rows {
+            self.met.meet_if(row.paid == 0, "row of a free step");
+            let Some(figures) = row.figures else {
+                self.met.meet("dashes");
+                continue;
+            };
+            self.met.meet(won_name(figures.won));
+            self.met.meet(if figures.detour == 0 { "detour zero" } else { "detour above zero" });
+        }
+        let dashed = |row: usize| rows.get(row).is_some_and(|row| row.figures.is_none());
+        self.met.meet_if(dashed(0), "dashes from the first row on");
+        self.met.meet_if(!dashed(0) && dashed(rows.len().saturating_sub(1)), "dashes after figures");
+    }
+
+    fn count_refused_replay(&mut self, call: &Call, refusal: &Refusal) {
+        let Call::Replay { model, log, rows, .. } = call else { return };
+        let log = log_steps(&log.content);
+        match refusal.number {
+            8 => self.met.meet_if(rows.content.len() + 1 == log.len() * 12, "8 for a byte short of the rows"),
+            14 => {
+                let steps = read_sheet(&model.content).expect("the sheets come before 14").steps.len();
+                let number = log[refusal.row - 1] as usize;
+                let cut = number >= steps && number % 256 < steps;
+                self.met.meet_if(cut, "14 for a number that 8 bits would cut to a step");
+                self.met.meet_if(number >= steps, "14 for a step that is not there");
+                self.met.meet_if(number < steps, "14 for a step that cannot be taken");
+                self.met.meet(if refusal.row == 1 { "14 in the first row" } else { "14 in a later row" });
+                self.met.meet_if(refusal.row == 255, "14 in row 255");
+            }
+            15 => self.met.meet(if log.len() == 256 { "15 for 256 steps" } else { "15 for more" }),
+            _ => {}
+        }
+    }
+
     /// Prints the tables and says whether each answer was met often enough.
     pub fn enough(&self, calls: u64) -> bool {
-        let refused = self.refused.enough(&["run", "question"], &possible(), floor(calls, 400));
+        let refused = self.refused.enough(&ENTRIES, &possible(), floor(calls, 400));
         println!("answers");
-        self.met.enough(&OTHERS, floor(calls, 800)) && refused
+        self.met.enough(OTHERS, floor(calls, 800)) && refused
+    }
+}
+
+fn entry_of(call: &Call) -> &'static str {
+    match call {
+        Call::Run { .. } => "run",
+        Call::Question { .. } => "question",
+        Call::Replay { .. } => "replay",
     }
 }
 
@@ -98,6 +176,14 @@ fn floor(calls: u64, share: u64) -> u64 {
         0
     } else {
         calls / share
+    }
+}
+
+fn won_name(won: i64) -> &'static str {
+    match won {
+        ..=-1 => "won below zero",
+        0 => "won zero",
+        1.. => "won above zero",
     }
 }
 
