@@ -1,28 +1,34 @@
-//! What the calls of the library's functions have to meet: every refusal that the paper makes possible, and every kind of
+//! What the calls of the library's functions on sheets, and of the replay, have to meet: every refusal that the paper makes possible, and every kind of
 //! answer, table and fault that is told apart here.
 
 use crate::counts::{Met, Refusals, Row};
 use crate::planner::blocks::{acceptable, make_cut, of_weight, whole, Block, Cut, NOTHING};
+use crate::planner::replay;
 use crate::planner::sheet::read_sheet;
 use crate::planner::{Part, Refusal};
 use crate::tables::{bytes_of, Call, Function, Given};
 
-const FUNCTIONS: [&str; 4] = ["read_model", "write_model", "rebuild", "write_cuts"];
+const FUNCTIONS: [&str; 5] = ["read_model", "write_model", "rebuild", "write_cuts", "replay"];
 
 /// Form and fill are given to a writer, so that of its own fields it never gives 2 or 6. `Sheet` is the model, as its
 /// sheet or as its tables; `Inner` the one in a cut sheet; `Lists` are lent tables.
 fn possible() -> Vec<Row> {
     let mut list = Vec::new();
-    for function in ["read_model", "rebuild", "write_cuts"] {
+    for function in ["read_model", "rebuild", "write_cuts", "replay"] {
         list.extend((1..=6).map(|number| (function, Part::Sheet, number)));
     }
     list.extend([1, 3, 4, 5].map(|number| ("write_model", Part::Sheet, number)));
-    list.extend([1, 2, 3, 4, 5, 6, 10].map(|number| ("rebuild", Part::Inner, number)));
-    list.extend([1, 2, 6, 9].map(|number| ("rebuild", Part::Cuts, number)));
+    for function in ["rebuild", "replay"] {
+        list.extend([1, 2, 3, 4, 5, 6, 10].map(|number| (function, Part::Inner, number)));
+        list.extend([1, 2, 6, 9].map(|number| (function, Part::Cuts, number)));
+    }
     list.extend([1, 9].map(|number| ("write_cuts", Part::Cuts, number)));
+    list.extend([14, 15].map(|number| ("replay", Part::Log, number)));
     list.extend(FUNCTIONS.map(|function| (function, Part::Lists, 8)));
     list
 }
+
+const DASH: i32 = replay::DASH as i32;
 
 const KINDS: &[&str] = &[
     "read_model: done, just enough places",
@@ -83,6 +89,25 @@ const KINDS: &[&str] = &[
     "write_cuts: an empty set",
     "write_cuts: the block's full set",
     "write_cuts: a set that reaches outside",
+    "replay: done, just enough places",
+    "replay: done, more places than needed",
+    "replay: done, no rows",
+    "replay: done, 255 rows",
+    "replay: done, the largest model",
+    "replay: done, won below zero",
+    "replay: done, won zero",
+    "replay: done, won above zero",
+    "replay: done, a detour",
+    "replay: done, dashes",
+    "replay: 8 for rows alone",
+    "replay: 8, one place short",
+    "replay: 14 for a step that is not there",
+    "replay: 14 for a number that 8 bits would cut to a step",
+    "replay: 14 for a step that cannot be taken",
+    "replay: 14 in the first row",
+    "replay: 14 in a later row",
+    "replay: 15 for 256 steps",
+    "replay: 15 for more",
 ];
 
 #[derive(Default)]
@@ -145,7 +170,25 @@ fn done_kinds(call: &Call, numbers: &[usize]) -> Vec<String> {
         (cuts == Some(255), "255 cuts"),
         (call.words == "the way back", "the way back"),
     ];
-    kinds.iter().filter(|(met, _)| *met).map(|(_, kind)| format!("done, {kind}")).collect()
+    let mut kinds: Vec<&str> = kinds.iter().filter(|(met, _)| *met).map(|(_, kind)| *kind).collect();
+    if function == Function::Replay {
+        kinds.extend(row_kinds(&call.outcome().1[0][..3 * numbers[0]]));
+    }
+    kinds.iter().map(|kind| format!("done, {kind}")).collect()
+}
+
+fn row_kinds(values: &[u32]) -> Vec<&'static str> {
+    let any = |kind: fn(i32, i32) -> bool| values.chunks(3).any(|row| kind(row[1] as i32, row[2] as i32));
+    let kinds = [
+        (values.is_empty(), "no rows"),
+        (values.len() == 3 * 255, "255 rows"),
+        (any(|won, _| won < 0), "won below zero"),
+        (any(|won, _| won == 0), "won zero"),
+        (any(|won, _| won > 0 && won != DASH), "won above zero"),
+        (any(|_, detour| detour > 0 && detour != DASH), "a detour"),
+        (any(|won, detour| won == DASH && detour == DASH), "dashes"),
+    ];
+    kinds.iter().filter(|(met, _)| *met).map(|(_, kind)| *kind).collect()
 }
 
 fn refused_kinds(call: &Call, refusal: &Refusal) -> Vec<String> {
@@ -159,6 +202,10 @@ fn refused_kinds(call: &Call, refusal: &Refusal) -> Vec<String> {
             vec![format!("1 before a {}", ["block", "column", "set"][given.tables[1].len() % 3])]
         }
         (Function::WriteCuts, Part::Cuts, _) => vec![why_nine(given).to_string()],
+        (_, Part::Log, 14) => bad_row_kinds(given, refusal.row),
+        (_, Part::Log, _) => {
+            vec![if given.tables[2].len() == 256 { "15 for 256 steps" } else { "15 for more" }.to_string()]
+        }
         _ => vec![],
     }
 }
@@ -175,6 +222,19 @@ fn short_kinds(call: &Call) -> Vec<String> {
         kinds.push("8, one place short".to_string());
     }
     kinds
+}
+
+fn bad_row_kinds(given: &Given, row: usize) -> Vec<String> {
+    let steps = read_sheet(&bytes_of(&given.tables[0])).expect("the sheets are judged before the log").steps.len();
+    let number = given.tables[2][row - 1] as usize;
+    let kinds = [
+        (number >= steps, "14 for a step that is not there"),
+        (number >= steps && number % 256 < steps, "14 for a number that 8 bits would cut to a step"),
+        (number < steps, "14 for a step that cannot be taken"),
+        (row == 1, "14 in the first row"),
+        (row > 1, "14 in a later row"),
+    ];
+    kinds.iter().filter(|(met, _)| *met).map(|(_, kind)| kind.to_string()).collect()
 }
 
 /// A step's cost comes before its marks.

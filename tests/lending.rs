@@ -1,5 +1,5 @@
-//! Calls of the library's functions on sheets by chance: good ones, ones with a fault of every kind, and ones with several
-//! faults, so that the order of the refusals shows. Tables are just long enough, a place short, longer, or empty.
+//! Calls of the library's functions on sheets, and of the replay, by chance: good ones, ones with a fault of every kind, and
+//! ones with several faults, so that the order of the refusals shows. Tables are just long enough, a place short, longer, or empty.
 
 use crate::call;
 use crate::chance::Chance;
@@ -7,19 +7,23 @@ use crate::damage::{change_a_count, damaged_sheet, layout, random_cuts, spoil_a_
 use crate::making::{any_cuts, any_question};
 use crate::planner::bits::Field;
 use crate::planner::blocks::{cut_fields, Cut};
+use crate::planner::entries::log_steps;
 use crate::planner::library::{tables_of, values};
-use crate::planner::sheet::write_sheet;
+use crate::planner::sheet::{write_cut_sheet, write_sheet};
 use crate::planner::task::Model;
+use crate::replaying::{any_replay, walk};
 use crate::shapes::{any_model, full_size, small_model};
 use crate::tables::{numbers_of, Call, Function, Given};
 
 /// A call, and for many of the accepted ones the way back: what one function wrote is another's input.
 pub fn any_calls(chance: &mut Chance) -> Vec<Call> {
-    let (words, given) = match chance.below(4) {
-        0 => any_reading(chance),
-        1 => any_writing(chance),
-        2 => any_rebuilding(chance),
-        _ => any_cut_writing(chance),
+    // rows take much of what a batch may print
+    let (words, given) = match chance.below(9) {
+        0..=1 => any_reading(chance),
+        2..=3 => any_writing(chance),
+        4..=5 => any_rebuilding(chance),
+        6..=7 => any_cut_writing(chance),
+        _ => any_replaying(chance),
     };
     let mut calls = vec![lending(chance, &words, given)];
     if chance.percent(40) {
@@ -28,16 +32,20 @@ pub fn any_calls(chance: &mut Chance) -> Vec<Call> {
     calls
 }
 
-/// The largest model through each function, with 255 cuts.
+/// The largest model through each function, with 255 cuts and up to 255 steps.
 pub fn largest_calls(chance: &mut Chance) -> Vec<Call> {
     let model = full_size(chance);
     let sheet = write_sheet(&model);
-    let fields = cut_fields(&random_cuts(chance, &model, 255));
+    let cuts = random_cuts(chance, &model, 255);
+    let fields = cut_fields(&cuts);
     let reading = just_enough(chance, "the largest model", Given::sheets(Function::ReadModel, &[&sheet]));
     let writing = just_enough(chance, "the largest cut sheet", given_cuts(&sheet, &fields));
     let mut calls = vec![reading, writing];
     calls.extend(way_back(chance, &calls[0]));
     calls.extend(way_back(chance, &calls[1]));
+    let log = walk(chance, &model, 255).0;
+    let replaying = given_log(&sheet, &write_cut_sheet(&model, &cuts), &log);
+    calls.push(just_enough(chance, "the largest model and cut sheet", replaying));
     calls
 }
 
@@ -74,7 +82,7 @@ pub fn just_enough(chance: &mut Chance, words: &str, given: Given) -> Call {
     Call::new(chance, words, given, &needed)
 }
 
-/// Where a call is accepted: the one that has to bring back what this one was given.
+/// Where a call on sheets is accepted: the one that has to bring back what this one was given.
 fn way_back(chance: &mut Chance, call: &Call) -> Option<Call> {
     let (answer, after) = call.outcome();
     let counts: Vec<u64> = answer.ok()?.iter().map(|count| *count as u64).collect();
@@ -86,6 +94,7 @@ fn way_back(chance: &mut Chance, call: &Call) -> Option<Call> {
         Function::WriteModel => Given::new(Function::ReadModel, &[], vec![sheet()]),
         Function::Rebuild => Given::new(Function::WriteCuts, &counts, vec![model, after[0].clone()]),
         Function::WriteCuts => Given::new(Function::Rebuild, &[], vec![model, sheet()]),
+        Function::Replay => return None,
     };
     let brought = back.judged().expect("what was written or read is accepted").values;
     let given = &call.given.tables[call.given.tables.len() - brought.len()..];
@@ -125,6 +134,19 @@ fn any_reading(chance: &mut Chance) -> (String, Given) {
 fn any_rebuilding(chance: &mut Chance) -> (String, Given) {
     let call::Call::Question { model, cut_sheet, .. } = any_question(chance) else { unreachable!() };
     ("a question's sheets".to_string(), Given::sheets(Function::Rebuild, &[&model.content, &cut_sheet.content]))
+}
+
+/// The two sheets and the log of a replay; of the longest logs only as much as the program has room for.
+fn any_replaying(chance: &mut Chance) -> (String, Given) {
+    let call::Call::Replay { model, cut_sheet, log, .. } = any_replay(chance) else { unreachable!() };
+    let mut steps = log_steps(&log.content);
+    steps.truncate(1000);
+    (format!("a log of {} steps", steps.len()), given_log(&model.content, &cut_sheet.content, &steps))
+}
+
+/// A model sheet, a cut sheet and a log.
+pub fn given_log(model: &[u8], cut_sheet: &[u8], log: &[u32]) -> Given {
+    Given::new(Function::Replay, &[], vec![numbers_of(model), numbers_of(cut_sheet), log.to_vec()])
 }
 
 /// A model sheet's fields as a writer is given them; its form is not among them.

@@ -1,13 +1,13 @@
-//! Calls of the library's functions on sheets, with one small model gone through from end to end: every length of every
+//! Calls of the library's functions on sheets, and of the replay, with one small model gone through from end to end: every length of every
 //! table, every bad field with a table that ends before it or behind it, counts and values of every kind.
 
 use crate::chance::Chance;
 use crate::damage::layout;
-use crate::every::bad;
+use crate::every::{bad, bad_inner_sheets, bad_parts, bad_sheets};
 use crate::examples::{cuts_of, small_rethread, CUTS};
-use crate::lending::{given_cuts, given_model, just_enough};
+use crate::lending::{given_cuts, given_log, given_model, just_enough};
 use crate::planner::blocks::cut_fields;
-use crate::planner::sheet::{write_cut_sheet, write_sheet};
+use crate::planner::sheet::{write_cut_part, write_cut_sheet, write_sheet};
 use crate::planner::task::Model;
 use crate::tables::{Call, Function, Given};
 
@@ -34,9 +34,15 @@ fn cut_writing() -> Given {
     given_cuts(&write_sheet(&small()), &cut_fields(&cuts_of(&CUTS)))
 }
 
+/// Crawl, stop and tape, on all of the small re-thread.
+fn replaying() -> Given {
+    let model = small_rethread();
+    given_log(&write_sheet(&model), &write_cut_sheet(&model, &cuts_of(&CUTS)), &[0, 1, 2])
+}
+
 pub fn every_call(chance: &mut Chance) -> Vec<Call> {
     let mut calls = Vec::new();
-    for good in [reading(), writing(), rebuilding(), cut_writing()] {
+    for good in [reading(), writing(), rebuilding(), cut_writing(), replaying()] {
         calls.push(just_enough(chance, "the small model", good.clone()));
         calls.extend(every_length_lent(chance, &good));
         for given in every_length(&good) {
@@ -45,6 +51,11 @@ pub fn every_call(chance: &mut Chance) -> Vec<Call> {
     }
     for (words, good, given) in spoiled() {
         calls.push(lent_for(chance, words, &good, given));
+    }
+    for given in longest_logs() {
+        for places in [764, 765, 774] {
+            calls.push(Call::new(chance, "a log of about 255 steps", given.clone(), &[places]));
+        }
     }
     calls
 }
@@ -95,6 +106,8 @@ fn spoiled() -> Vec<(&'static str, Given, Given)> {
         .chain(of_model("columns and steps", model_counts()))
         .chain(of_cuts("values of a cut, and a table that ends", cut_values()))
         .chain(of_cuts("counts of cuts", cut_counts()))
+        .chain(log_values().into_iter().map(|given| ("steps of a log", replaying(), given)))
+        .chain(bad_sheets_and_logs().into_iter().map(|given| ("a sheet before a log", replaying(), given)))
         .collect()
 }
 
@@ -175,4 +188,42 @@ fn cut_values() -> Vec<Given> {
         }
     }
     list
+}
+
+/// Steps that can be taken or not, unknown ones, and such as fewer bits would cut to good ones, in each row of the log.
+fn log_values() -> Vec<Given> {
+    let values = [0, 1, 2, 3, 4, 127, 128, 255, 256, 257, 258, 300, 65_536, 65_538, 1 << 31, (1 << 31) + 2, u32::MAX];
+    let mut list = Vec::new();
+    for row in 0..3 {
+        for value in values {
+            let mut given = replaying();
+            given.tables[2][row] = value;
+            list.push(given);
+        }
+    }
+    list
+}
+
+/// A sheet or a part of one for each number, with a good log, a bad one and one that is too long: the sheet is judged first.
+fn bad_sheets_and_logs() -> Vec<Given> {
+    let model = write_sheet(&small_rethread());
+    let good = write_cut_part(&cuts_of(&CUTS));
+    let mut sheets: Vec<(Vec<u8>, Vec<u8>)> = Vec::new();
+    sheets.extend(bad_sheets().into_iter().map(|given| (given, [&model[..], &good].concat())));
+    sheets.extend(bad_inner_sheets().into_iter().map(|inner| (model.clone(), [inner, good.clone()].concat())));
+    sheets.extend(bad_parts().into_iter().map(|part| (model.clone(), [&model[..], &part].concat())));
+    let logs = [vec![0, 1, 2], vec![300], vec![0; 256]];
+    sheets.iter().flat_map(|(given, inner)| logs.iter().map(|log| given_log(given, inner, log))).collect()
+}
+
+/// Crawl and stop in turn; with 15 goes a step that is not there, since 15 is judged before it.
+fn longest_logs() -> Vec<Given> {
+    let log = |steps: u32| {
+        let mut given = replaying();
+        given.tables[2] = (0..steps).map(|row| row % 2).collect();
+        given
+    };
+    let mut unknown = log(256);
+    unknown.tables[2][0] = 300;
+    vec![log(254), log(255), log(256), log(257), log(512), unknown]
 }

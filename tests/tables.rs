@@ -1,8 +1,8 @@
-//! A call of one of the library's functions on sheets: as the program of library_program.txt reads it, and the lines
-//! that it should print.
+//! A call of one of the library's functions on sheets, or of the replay: as the program of library_program.txt reads it, and
+//! the lines that it should print.
 
 use crate::chance::Chance;
-use crate::planner::library::{lend, read_model, rebuild, write_cuts, write_model, Done};
+use crate::planner::library::{lend, read_model, rebuild, replayed, write_cuts, write_model, Done};
 use crate::planner::Refusal;
 
 /// So many places of each table lie behind those that are lent. They are printed too.
@@ -14,6 +14,7 @@ pub enum Function {
     WriteModel,
     Rebuild,
     WriteCuts,
+    Replay,
 }
 
 impl Function {
@@ -23,6 +24,7 @@ impl Function {
             Function::WriteModel => "write_model",
             Function::Rebuild => "rebuild",
             Function::WriteCuts => "write_cuts",
+            Function::Replay => "replay",
         }
     }
 
@@ -33,6 +35,7 @@ impl Function {
             Function::WriteModel => &["frame", "costs", "marks"],
             Function::Rebuild => &["model", "cut sheet"],
             Function::WriteCuts => &["model", "cuts"],
+            Function::Replay => &["model", "cut sheet", "log"],
         }
     }
 
@@ -42,6 +45,7 @@ impl Function {
             Function::ReadModel => &["frame", "costs", "marks"],
             Function::WriteModel | Function::WriteCuts => &["sheet"],
             Function::Rebuild => &["cuts"],
+            Function::Replay => &["rows"],
         }
     }
 
@@ -50,6 +54,7 @@ impl Function {
             Function::ReadModel => "held",
             Function::WriteModel | Function::WriteCuts => "sheet",
             Function::Rebuild => "cuts",
+            Function::Replay => "rows",
         }
     }
 }
@@ -58,7 +63,7 @@ impl Function {
 fn width(table: &str) -> usize {
     match table {
         "costs" => 2,
-        "cuts" => 4,
+        "cuts" | "log" | "rows" => 4,
         _ => 1,
     }
 }
@@ -91,6 +96,7 @@ impl Given {
             }
             Function::Rebuild => rebuild(&bytes(0), &bytes(1)),
             Function::WriteCuts => write_cuts(&bytes(0), self.numbers[0], &self.tables[1]),
+            Function::Replay => replayed(&bytes(0), &bytes(1), &self.tables[2]),
         }
     }
 
@@ -163,6 +169,7 @@ impl Call {
         let (answer, after) = self.outcome();
         let said = match answer {
             Ok(numbers) => numbers.iter().fold(self.given.function.answer().to_string(), |all, n| format!("{all} {n}")),
+            Err(refusal) if refusal.number == 14 => format!("stopped {}", refusal.row),
             Err(refusal) => format!("refused {}", refusal.number),
         };
         let mut text = format!("{words}\n{said}\n");
