@@ -26,10 +26,13 @@ mod tables;
 
 use chance::Chance;
 use kinds::Kinds;
-use tables::Call;
+use tables::{Call, Function};
 
 /// `rt try` takes 1,048,576 bytes of output, and no more.
 const LONGEST: usize = 1_000_000;
+
+/// So many replays of the small model come before the other functions.
+const REPLAYS_FIRST: usize = 20;
 
 /// How often each refusal and each kind of call has to be met.
 const FLOOR: u64 = 5;
@@ -84,13 +87,18 @@ impl Cases {
         Chance::new(self.seed, self.drawn)
     }
 
-    /// In no order, since the interpreter may not come to the end of them.
+    /// In no order, since the interpreter may not come to the end of them. It takes long over a replay, so that it would see
+    /// little of the other functions if most replays did not come last.
     fn of_small_model(&mut self) -> Batch {
         let mut chance = self.chance();
         let mut calls = places::every_call(&mut chance);
         chance.shuffle(&mut calls);
+        let (replays, others): (Vec<Call>, Vec<Call>) =
+            calls.into_iter().partition(|call| call.given.function == Function::Replay);
         let mut batch = Batch::default();
-        self.add(&mut batch, &calls);
+        self.add(&mut batch, &replays[..REPLAYS_FIRST]);
+        self.add(&mut batch, &others);
+        self.add(&mut batch, &replays[REPLAYS_FIRST..]);
         batch
     }
 
