@@ -2,7 +2,7 @@
 
 use crate::call::Call;
 use crate::chance::Chance;
-use crate::damage::more_cuts;
+use crate::damage::{more_cuts, random_cuts};
 use crate::making::{any_cuts, any_faults, list, model_for, slice, two_sheets};
 use crate::planner::blocks::{only, Cut};
 use crate::planner::task::{Model, State, Step};
@@ -13,6 +13,7 @@ pub fn any_replay(chance: &mut Chance) -> Call {
     let trap = if chance.percent(20) { trap(chance, &mut model) } else { None };
     let cuts = match trap {
         Some(cut) => trap_cuts(chance, &model, cut),
+        None if model.states() > 255 && chance.percent(15) => random_cuts(chance, &model, 255),
         None => any_cuts(chance, &model),
     };
     let (given, cut_sheet) = two_sheets(chance, &model, &cuts, faults);

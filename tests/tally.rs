@@ -55,6 +55,9 @@ const OTHERS: &[&str] = &[
     "replay of 255 rows",
     "replay with bytes behind its log",
     "replay in a list with more places",
+    "replay on 9 columns or more",
+    "replay after 20 cuts or more",
+    "replay after 255 cuts",
     "row of a free step",
     "won below zero",
     "won zero",
@@ -91,7 +94,7 @@ impl Tally {
                     self.met.meet(if *value == NO_WAY { "estimate: no way" } else { "estimate" });
                 }
             }
-            Outcome::Replayed(_, replay) => self.count_replay(call, replay),
+            Outcome::Replayed(model, replay) => self.count_replay(call, model, replay),
         }
     }
 
@@ -113,13 +116,17 @@ impl Tally {
         }
     }
 
-    fn count_replay(&mut self, call: &Call, replay: &Replay) {
-        let Call::Replay { log, rows: list, .. } = call else { return };
+    fn count_replay(&mut self, call: &Call, model: &Model, replay: &Replay) {
+        let Call::Replay { model: sheet, cut_sheet, log, rows: list } = call else { return };
+        let cuts = cuts_in(&cut_sheet.content[sheet.content.len()..]);
         let rows = &replay.rows;
         self.met.meet_if(rows.is_empty(), "replay of no rows");
         self.met.meet_if(rows.len() == 255, "replay of 255 rows");
         self.met.meet_if(log.content.len() % 4 > 0, "replay with bytes behind its log");
         self.met.meet_if(list.content.len() / 12 > rows.len(), "replay in a list with more places");
+        self.met.meet_if(model.columns() >= 9, "replay on 9 columns or more");
+        self.met.meet_if(cuts >= 20, "replay after 20 cuts or more");
+        self.met.meet_if(cuts == 255, "replay after 255 cuts");
         for row in rows {
             self.met.meet_if(row.paid == 0, "row of a free step");
             let Some(figures) = row.figures else {
@@ -168,6 +175,11 @@ fn entry_of(call: &Call) -> &'static str {
         Call::Question { .. } => "question",
         Call::Replay { .. } => "replay",
     }
+}
+
+/// The count of a cut part: 8 bits after the 4 of the form.
+fn cuts_in(part: &[u8]) -> u32 {
+    (u32::from(part[0]) % 16) * 16 + u32::from(part[1]) / 16
 }
 
 /// One in so many calls; a comparison too short to say is not held to it.
