@@ -15,6 +15,7 @@ use borrow.Author.Tests.{eq-eqb, ne-eqb, lt-ltb, ltb-true, ltb-false}
 use Rattle.task.specs.Loops.{tab, over}
 use Rattle.task.specs.Task.{Task}
 use Rattle.task.proofs.LoopLaws.{tab-length, over-length}
+use Rattle.task.specs.Sizes.{limits}
 use Rattle.fields.specs.Judging.{Check, check, pick, refusal, each, _then_}
 use Rattle.fields.specs.Places.{puts}
 use Rattle.fields.proofs.JudgingLaws.{applies, refusal-append}
@@ -44,9 +45,9 @@ bad-row-within t log = split (ℕ-discrete (badRow t log) 0)
     split (no z) = let f = bad-first t log z in omega (arith, f .counted, f .there)
 
 -- a log that is too long gets 15 wherever the sheets are good, and neither its rows nor the places are looked at
-too-long : (t : Task) (log : List ℕ) (cs : List Check) → 255 < length log → 15 ≡ refusal (logChecks t log ++ cs)
+too-long : (t : Task) (log : List ℕ) (cs : List Check) → limits .log < length log → 15 ≡ refusal (logChecks t log ++ cs)
 unfolding logChecks
-too-long t log cs h = applies 15 (ltb 255 (length log)) _ (lt-ltb 255 (length log) h) (λ z. omega arith)
+too-long t log cs h = applies 15 (ltb (limits .log) (length log)) _ (lt-ltb (limits .log) (length log) h) (λ z. omega arith)
 
 -- a refusal has no rows, and names one of the log
 module _ (t : Task) (log : List ℕ) (n : ℕ) where
@@ -114,7 +115,7 @@ module _ (model s log : List ℕ) (list : List ℤ) where
             record { fits = omega (arith, c); within = omega (arith, c); named = subst (λ (x : Replayed). rowNamed x ≤ length log) (sym m) (names-row (taskOn model) log N) }
 
 -- ---- n values of the log are got, of as many as are seen
-module _ (model s log : List ℕ) (n most : ℕ) (seen : ltb 255 most ≡ true) (enough : n ≡ usable most (length log / 4)) where
+module _ (model s log : List ℕ) (n most : ℕ) (seen : ltb (limits .log) most ≡ true) (enough : n ≡ usable most (length log / 4)) where
   abbrev t : Task
   t = taskOn model
 
@@ -127,29 +128,29 @@ module _ (model s log : List ℕ) (n most : ℕ) (seen : ltb 255 most ≡ true) 
   -- they are the whole log, or both are too long
   record Whole : Type 0 where
     same : got ≡ all
-    few : length all ≤ 255
+    few : length all ≤ limits .log
 
   record Long : Type 0 where
-    got-long : 255 < length got
-    all-long : 255 < length all
+    got-long : limits .log < length got
+    all-long : limits .log < length all
 
   whole-or-long : Whole ⊎ Long
   unfolding valuesOn
-  whole-or-long = split (decLt 255 (length log / 4))
+  whole-or-long = split (decLt (limits .log) (length log / 4))
     where
       there : length (tab (length log / 4) (valueOn log)) ≡ length log / 4
       there = tab-length (length log / 4) (valueOn log)
 
-      split : Dec (255 < length log / 4) → Whole ⊎ Long
+      split : Dec ((limits .log) < length log / 4) → Whole ⊎ Long
       split (yes h) =
-          let u = usable-is most (length log / 4) .enough 256 (omega (arith, ltb-true 255 most seen)) (omega arith) in
+          let u = usable-is most (length log / 4) .enough (limits .log + 1) (omega (arith, ltb-true (limits .log) most seen)) (omega arith) in
           inr (record { got-long = omega (arith, tab-length n (valueOn log), u); all-long = omega (arith, there) })
       split (no h) =
-          let e : n ≡ length log / 4 = enough ∙ sym (all-of-them most (length log / 4) (omega (arith, ltb-true 255 most seen))) in
+          let e : n ≡ length log / 4 = enough ∙ sym (all-of-them most (length log / 4) (omega (arith, ltb-true (limits .log) most seen))) in
           inl (record { same = ap (λ (k : ℕ). tab k (valueOn log)) e; few = omega (arith, there) })
 
   -- ---- 8 is judged on whole places
-  module _ (rows : List ℕ) (list : List ℤ) (lent : length list ≡ usable 255 (length rows / 12) * 3) where
+  module _ (rows : List ℕ) (list : List ℤ) (lent : length list ≡ usable (limits .log) (length rows / 12) * 3) where
     abbrev M : ℕ
     M = refusal (replayEntryChecks model s log rows)
 
@@ -165,7 +166,7 @@ module _ (model s log : List ℕ) (n most : ℕ) (seen : ltb 255 most ≡ true) 
       where
         whole : Whole → TailSame
         whole w =
-            ap (λ (b : Bool). refusal (logChecks t all ++ (check 8 b ∷ []))) (missing-same 255 (length rows / 12) (length all) (length list) (w .few) lent)
+            ap (λ (b : Bool). refusal (logChecks t all ++ (check 8 b ∷ []))) (missing-same (limits .log) (length rows / 12) (length all) (length list) (w .few) lent)
             ∙ ap (λ (l : List ℕ). refusal (logChecks t l ++ (tooFew (length l * 3) list ∷ []))) (sym (w .same))
 
         long : Long → TailSame
@@ -198,7 +199,7 @@ module _ (model s log : List ℕ) (n most : ℕ) (seen : ltb 255 most ≡ true) 
           split (yes z) =
               let m = ap (λ (o : replay.Outcome). o .answer) (made model s got list e z) in
               let k : rowCount a * 3 ≡ length (figures model s got list) = ap (λ (x : Replayed). rowCount x * 3) m ∙ sym (rows-length t (cutsOf s) got) in
-              let b : rowCount a * 3 * 4 ≤ length rows = omega (arith, known model s got list e .fits, usable-is 255 (length rows / 12) .there) in
+              let b : rowCount a * 3 * 4 ≤ length rows = omega (arith, known model s got list e .fits, usable-is (limits .log) (length rows / 12) .there) in
               let y = q ∙ signed-over (figures model s got list) list ys rows (rowCount a * 3) (ap (λ (o : replay.Outcome). o .rows) (made model s got list e z)) k b in
               let x = p ∙ ap replayNumber m in
               simp (eq-eqb M 0 (checks-same ∙ z))
@@ -219,28 +220,28 @@ module _ (log steps : List ℕ) (n : ℕ) {steps′ : List ℕ} (got-is : steps�
   unfolding over
   front = ap (take n) got-is ∙ take-at (tab n (valueOn log)) _ n (tab-length n (valueOn log))
 
-  module _ (model s rows : List ℕ) (list : List ℤ) (m : ℕ) (long : length list ≡ 765) (q : m ≡ usable 255 (length rows / 12)) {a : Replayed} {list′ : List ℤ}
+  module _ (model s rows : List ℕ) (list : List ℤ) (m : ℕ) (long : length list ≡ limits .log * 3) (q : m ≡ usable (limits .log) (length rows / 12)) {a : Replayed} {list′ : List ℤ}
       (e : Replays model s (take n steps′) (take (m * 3) list) a list′) where
     replays : Replays model s (tab n (valueOn log)) (take (m * 3) list) a list′
     replays = subst (λ (l : List ℕ). Replays model s l (take (m * 3) list) a list′) front e
 
-    lent : length (take (m * 3) list) ≡ usable 255 (length rows / 12) * 3
-    lent = part-long 255 (length rows / 12) list long q
+    lent : length (take (m * 3) list) ≡ usable (limits .log) (length rows / 12) * 3
+    lent = part-long (limits .log) (length rows / 12) list long q
 
     facts : Known model s (tab n (valueOn log)) (take (m * 3) list) replays
     facts = known model s (tab n (valueOn log)) (take (m * 3) list) replays
 
-    pub rows-few : rowCount a ≤ 255
-    rows-few = omega (arith, facts .fits, lent, usable-is 255 (length rows / 12) .few)
+    pub rows-few : rowCount a ≤ limits .log
+    rows-few = omega (arith, facts .fits, lent, usable-is (limits .log) (length rows / 12) .few)
 
-    pub row-few : n ≤ 256 → rowNamed a ≤ 256
+    pub row-few : n ≤ limits .log + 1 → rowNamed a ≤ limits .log + 1
     row-few h = omega (arith, facts .named, tab-length n (valueOn log))
 
     pub rows-go : {k : ℕ} → k ≡ rowCount a * 3 → (k < 1024) × (k ≤ length (list′ ++ drop (m * 3) list)) × (k * 4 ≤ length rows)
     rows-go z =
-        (omega (arith, rows-few), omega (arith, facts .within, length-append list′ (drop (m * 3) list)), omega (arith, facts .fits, lent, usable-is 255 (length rows / 12) .there))
+        (omega (arith, rows-few), omega (arith, facts .within, length-append list′ (drop (m * 3) list)), omega (arith, facts .fits, lent, usable-is (limits .log) (length rows / 12) .there))
 
-    pub replayed-in : (most : ℕ) → n ≡ usable most (length log / 4) → ltb 255 most ≡ true → {k r : ℕ} {rows′ : List ℕ} → k ≡ rowCount a * 3 → r ≡ replayNumber a
+    pub replayed-in : (most : ℕ) → n ≡ usable most (length log / 4) → ltb (limits .log) most ≡ true → {k r : ℕ} {rows′ : List ℕ} → k ≡ rowCount a * 3 → r ≡ replayNumber a
         → rows′ ≡ puts 0 (each k (bytesAt (map twos (list′ ++ drop (m * 3) list)))) rows → EntryReplays model s log rows r rows′
     replayed-in most p seen z x y =
         told model s log n most seen p rows (take (m * 3) list) lent replays (drop (m * 3) list) x

@@ -6,6 +6,10 @@ use lib.ListN.{length, getD}
 use Rattle.task.specs.Loops.{tab}
 use Rattle.fields.specs.Judging.{each}
 
+-- no list has as many values
+abbrev pub tooMany : ℕ
+tooMany = 1024
+
 -- a value is four bytes, most significant first
 unfoldable pub valueBytes : ℕ → List ℕ
 valueBytes v = v / 2 ^ 24 % 256 ∷ v / 2 ^ 16 % 256 ∷ v / 2 ^ 8 % 256 ∷ v % 256 ∷ []

@@ -6,7 +6,7 @@ ghost use lib.ListN.{length};
 ghost use Rattle.task.specs.Loops.{tab, over};
 ghost use Rattle.fields.specs.Judging.{each};
 ghost use Rattle.fields.specs.Places.{puts};
-ghost use Rattle.values.specs.Values.{valueBytes, bytesAt, valueOn, twos};
+ghost use Rattle.values.specs.Values.{tooMany, valueBytes, bytesAt, valueOn, twos};
 
 // How many numbers one, two, three and four bytes have.
 const ONE_BYTE: u32 = 256;
@@ -19,7 +19,7 @@ const FOUR_BYTES: i64 = 4294967296;
 
 // Puts value i of a list: four bytes, most significant first.
 fn put_value(v: u32, i: usize, bytes: &mut [u8])
-    requires { ⌜ (i < 1024) × (i * 4 + 4 ≤ length (now bytes)) ⌝ }
+    requires { ⌜ (i < tooMany) × (i * 4 + 4 ≤ length (now bytes)) ⌝ }
     ensures { λ _. ⌜ now (bytes .exit) ≡ puts (i * 4) (valueBytes v) (now (bytes .entry)) ⌝ }
 {
     let at = i * 4;
@@ -31,7 +31,7 @@ fn put_value(v: u32, i: usize, bytes: &mut [u8])
 
 // Puts the first n values of a list over the front of the bytes.
 pub fn put_values(values: &[u32], n: usize, bytes: &mut [u8])
-    requires { ⌜ (n < 1024) × (n ≤ length (now values)) × (n * 4 ≤ length (now bytes)) ⌝ }
+    requires { ⌜ (n < tooMany) × (n ≤ length (now values)) × (n * 4 ≤ length (now bytes)) ⌝ }
     ensures { λ _. ⌜ now (bytes .exit) ≡ puts 0 (each n (bytesAt (now (values .entry)))) (now (bytes .entry)) ⌝ }
 {
     let mut i: usize = 0;
@@ -54,7 +54,7 @@ fn unsigned(v: i32) -> u32
 
 // The same of signed values.
 pub fn put_signed(values: &[i32], n: usize, bytes: &mut [u8])
-    requires { ⌜ (n < 1024) × (n ≤ length (now values)) × (n * 4 ≤ length (now bytes)) ⌝ }
+    requires { ⌜ (n < tooMany) × (n ≤ length (now values)) × (n * 4 ≤ length (now bytes)) ⌝ }
     ensures { λ _. ⌜ now (bytes .exit) ≡ puts 0 (each n (bytesAt (map twos (now (values .entry))))) (now (bytes .entry)) ⌝ }
 {
     let mut j: usize = 0;
@@ -66,7 +66,7 @@ pub fn put_signed(values: &[i32], n: usize, bytes: &mut [u8])
 
 // Value k of a list of bytes.
 fn get_value(bytes: &[u8], k: usize) -> u32
-    requires { ⌜ (k < 1024) × (k * 4 + 4 ≤ length (now bytes)) ⌝ }
+    requires { ⌜ (k < tooMany) × (k * 4 + 4 ≤ length (now bytes)) ⌝ }
     ensures { λ r. ⌜ r ≡ valueOn (now (bytes .entry)) k ⌝ }
 {
     let at = k * 4;
@@ -78,7 +78,7 @@ fn get_value(bytes: &[u8], k: usize) -> u32
 
 // Gets the first n values of the bytes into the front of a list.
 pub fn get_values(bytes: &[u8], n: usize, values: &mut [u32])
-    requires { ⌜ (n < 1024) × (n * 4 ≤ length (now bytes)) × (n ≤ length (now values)) ⌝ }
+    requires { ⌜ (n < tooMany) × (n * 4 ≤ length (now bytes)) × (n ≤ length (now values)) ⌝ }
     ensures { λ _. ⌜ now (values .exit) ≡ over (tab n (valueOn (now (bytes .entry)))) (now (values .entry)) ⌝ }
 {
     let mut k: usize = 0;

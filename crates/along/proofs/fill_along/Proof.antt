@@ -3,6 +3,7 @@ use Prim.Native.Nat.{ℕ, _+_, _-_, _≤_}
 use mathlib.Core.Path.{_≡_, sym, subst}
 use lib.ListN.{length, set, length-set}
 use Rattle.task.specs.Loops.{tab, over}
+use Rattle.task.specs.Sizes.{limits}
 use Rattle.task.proofs.LoopLaws.{over-none}
 use Rattle.blocks.proofs.FlatLaws.{over-set}
 use Rattle.along.specs.Along.{hereAfter, costAfter}
@@ -17,7 +18,7 @@ use Rattle.standing.proofs.take.Reads as take-reads
 
 abbrev Inv-loop : tie.InvT-loop
 Inv-loop columns lands count cuts dist log here₀ estimates₀ i₀ here estimates i =
-    (i ≤ length log) × (length here ≡ 16) × (length estimates ≡ 256) × (here ≡ hereAfter columns lands log here₀ i)
+    (i ≤ length log) × (length here ≡ 16) × (length estimates ≡ limits .log + 1) × (here ≡ hereAfter columns lands log here₀ i)
     × (estimates ≡ over (tab i (costAfter columns lands count cuts dist log here₀)) estimates₀)
 
 abbrev μ-loop : tie.MeasureT-loop
@@ -75,7 +76,7 @@ loop-again c = let g = c .before .before .before .before .before .before .before
       simp length-set (l .inv .2),
       here-more (g .columns) (g .lands .now) (g .log .now) (g .here .now) (l .i) (l .inv .3) (c .take .ensures .0),
       over-set _ (l .i) _ (l .estimates) (g .estimates .now) (l .inv .4) (omega (arith, p .0 .2, p .0 .3, c .before .before .before .before .before .loop-test .taken))
-      (cost-after (g .columns) (g .lands .now) (g .count) (g .cuts .now) (g .dist .now) (g .log .now) (g .here .now) (l .i) (l .inv .3) (c .before .before .before .cost-here .ensures)),
+          (cost-after (g .columns) (g .lands .now) (g .count) (g .cuts .now) (g .dist .now) (g .log .now) (g .here .now) (l .i) (l .inv .3) (c .before .before .before .cost-here .ensures)),
     )
 
 -- src/lib.rt:124:20

@@ -1,7 +1,8 @@
-use Prim.Native.Nat.{ℕ}
+use Prim.Native.Nat.{_+_, _-_, _*_}
 use native.Mathlib.Omega.{arith}
 use mathlib.Core.Path.{_≡_, refl, sym, ap, _∙_}
 use lib.ListN.{length, replicate}
+use Rattle.task.specs.Sizes.{limits}
 use Rattle.fields.proofs.PlaceLaws.{puts-length}
 use Rattle.sheets.specs.Holding.{taskOn}
 use Rattle.cut_sheets.specs.CutPart.{cutsNamed, cutOn, countOf}
@@ -97,7 +98,7 @@ fill-along-requires c κs = let g = c .before .before .before .before .before .b
     let d = c .before .before .before .before .before .fill-distances .ensures .0 (taskOn (g .model .now)) (tb .tables) in
     let l = ap length q ∙ puts-length 0 _ _ in (
       (tb .narrow, tb .long, p .1, refl),
-      ((λ i k. omega (arith, known (p .0) (g .log .now) tb good i k, tb .few)), cuts-there (p .0) (g .log .now) tb good e h (replicate 765 0) (omega (arith, h)) q (replicate 256 0) d (omega (arith, h, l))),
+      ((λ i k. omega (arith, known (p .0) (g .log .now) tb good i k, tb .few)), cuts-there (p .0) (g .log .now) tb good e h (replicate ((limits .blocks - 1) * 3) 0) (omega (arith, h)) q (replicate (limits .blocks) 0) d (omega (arith, h, l))),
     )
 
 -- src/lib.rt:172:14
@@ -114,10 +115,9 @@ put-rows-requires c κs = let g = c .before .before .before .before .before .bef
     let h = count-below (g .part .now) e in
     let q = c .before .before .before .before .before .before .before .before .before .before .before .before .before .before .before .before .fill-cuts .ensures in
     let d = c .before .before .before .before .before .before .before .before .before .fill-distances .ensures .0 (taskOn (g .model .now)) (tb .tables) in
-    let w = c .before .before .before .fill-along .ensures in
-    (
+    let w = c .before .before .before .fill-along .ensures in (
       (p .1, c .before .before .before .before .before .before .before .before .before .before .before .before .before .before .before .before .before .before .before .if2 .left),
-      ((λ i k. omega (arith, known (p .0) (g .log .now) tb good i k, tb .few, tb .costs-long)), estimates-small (p .0) (g .log .now) tb good e h (replicate 765 0) (omega (arith, h)) q (replicate 256 0) d (replicate 256 0) w),
+      ((λ i k. omega (arith, known (p .0) (g .log .now) tb good i k, tb .few, tb .costs-long)), estimates-small (p .0) (g .log .now) tb good e h (replicate ((limits .blocks - 1) * 3) 0) (omega (arith, h)) q (replicate (limits .blocks) 0) d (replicate (limits .log + 1) 0) w),
     )
 
 -- src/lib.rt:119:1
@@ -136,7 +136,7 @@ returns-3 c = let g = c .before .before .before .before .before .before .before 
     let d = c .before .before .before .before .before .before .before .before .before .before .before .fill-distances .ensures .0 (taskOn (g .model .now)) (tb .tables) in
     let w = c .before .before .before .before .before .fill-along .ensures in
     done (taskOn (g .model .now)) _ (g .log .now) (g .rows .now) good (c .before .before .before .before .before .before .before .before .before .before .before .before .before .before .before .before .before .before .before .before .before .if2 .left)
-    (rows-written (p .0) (g .log .now) tb good e h (replicate 765 0) (omega (arith, h)) q (replicate 256 0) d (replicate 256 0) w (g .rows .now) (c .before .before .before .before .before .before .before .before .before .before .before .before .before .before .before .before .before .before .before .before .before .if2 .left) (c .before .put-rows .ensures))
+    (rows-written (p .0) (g .log .now) tb good e h (replicate ((limits .blocks - 1) * 3) 0) (omega (arith, h)) q (replicate (limits .blocks) 0) d (replicate (limits .log + 1) 0) w (g .rows .now) (c .before .before .before .before .before .before .before .before .before .before .before .before .before .before .before .before .before .before .before .before .before .if2 .left) (c .before .put-rows .ensures))
 
 pub replay-on-spec : {M : Type 1} → statement M
 replay-on-spec =
