@@ -95,36 +95,42 @@ fn stack_of(entry: Replay, c: &Case) -> usize {
     })
 }
 
-// Medians of the library's replay, the plain one and the question, in ms. Who goes first changes, since the next finds memory warm.
-fn times(c: &Case, ours: Replay, ask: Question, reps: usize) -> [f64; 3] {
+// Of each turn the times of the library's replay, of the plain one and of the question. Who goes first changes, since the next finds memory warm.
+fn turns(c: &Case, ours: Replay, ask: Question, reps: usize) -> Vec<[f64; 3]> {
     let log = bytes(&c.log);
     let (mut rows, mut estimates) = ([0; 3060], [0; 256]);
-    let mut out = [Vec::new(), Vec::new(), Vec::new()];
+    let mut out = vec![[0.0; 3]; reps];
     for k in 0..reps * 3 {
         let i = (k + k / 3) % 3;
-        out[i].push(match i {
+        out[k / 3][i] = match i {
             0 => timed(|| ours(&c.model, &c.sheet, &log, &mut rows)).0,
             1 => timed(|| plain_replay(&c.model, &c.sheet, &log, &mut rows)).0,
             _ => timed(|| ask(&c.model, &c.sheet, &c.states, &mut estimates)).0,
-        });
+        };
     }
-    out.map(|mut t| median(&mut t) * 1e3)
+    out
 }
 
-// The ratios to plain Rust and to the question.
+fn middle(turns: &[[f64; 3]], figure: impl Fn(&[f64; 3]) -> f64) -> f64 {
+    median(&mut turns.iter().map(figure).collect::<Vec<_>>())
+}
+
+// The ratios to plain Rust and to the question: medians of those within a turn, so that a slow stretch of the machine counts for all three.
 fn measure(c: &Case, reps: usize) -> [f64; 2] {
     let told = replayed(plain_replay, c);
     assert!(told == by_questions(c), "{}", c.name);
     let (ours, ask) = LIBRARY.unwrap_or((plain_replay, plain_question));
     assert!(replayed(ours, c) == told, "{}", c.name);
-    let [ms, plain, question] = times(c, ours, ask, reps);
-    print!("{:62} {ms:7.3} ms, plain {plain:7.3} ms, ratio {:.2}, ", c.name, ms / plain);
-    print!("question {question:7.3} ms, ratio {:.2}, stack {} and {}, ", ms / question, stack_of(ours, c), stack_of(plain_replay, c));
+    let turns = turns(c, ours, ask, reps);
+    let ms = |i: usize| middle(&turns, |t| t[i]) * 1e3;
+    let ratios = [1, 2].map(|i| middle(&turns, |t| t[0] / t[i]));
+    print!("{:62} {:7.3} ms, plain {:7.3} ms, ratio {:.2}, ", c.name, ms(0), ms(1), ratios[0]);
+    print!("question {:7.3} ms, ratio {:.2}, stack {} and {}, ", ms(2), ratios[1], stack_of(ours, c), stack_of(plain_replay, c));
     let n = c.log.len();
-    let won = values(&told.1[..n * 12]).into_iter().skip(1).step_by(3);
-    let dashes = won.clone().filter(|w| *w == DASH).count();
-    println!("{n} steps, {} win ground, {} lose some, {dashes} dashes", won.clone().filter(|w| 0 < *w).count() - dashes, won.filter(|w| *w < 0).count());
-    [ms / plain, ms / question]
+    let won: Vec<i32> = values(&told.1[..n * 12]).into_iter().skip(1).step_by(3).collect();
+    let count = |test: fn(i32) -> bool| won.iter().filter(|w| test(**w)).count();
+    println!("{n} steps, {} win ground, {} lose some, {} dashes", count(|w| 0 < w && w != DASH), count(|w| w < 0), count(|w| w == DASH));
+    ratios
 }
 
 fn main() {
