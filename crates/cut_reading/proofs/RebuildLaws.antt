@@ -9,21 +9,25 @@ use lib.ListN.{length, getD, take, drop, length-drop}
 use lib.Seq.{take-all}
 use borrow.Author.Tests.{le-leb, lt-leb, lt-ltb, le-ltb, eq-eqb, ne-eqb}
 use Rattle.task.specs.Loops.{all, tab, over}
-use Rattle.task.specs.Task.{Task, columnCount}
+use Rattle.task.specs.Sizes.{limits}
+use Rattle.task.specs.Task.{Task, ColumnEntry, Accepted, noColumn, column, columnCount, sizeOf, perColumn}
 use Rattle.task.specs.Tables.{taskOf}
-use Rattle.task.proofs.LoopLaws.{and-both, all-more, all-fails}
+use Rattle.task.proofs.LoopLaws.{and-both, all-more, all-fails, tab-ext}
 use Rattle.fields.specs.Judging.{refusal, each}
 use Rattle.fields.specs.Places.{puts}
 use Rattle.fields.proofs.JudgingLaws.{stop, go, applies, passes, no-checks, refusal-append, refused-is}
 use Rattle.fields.proofs.PlaceLaws.{each-length, puts-over}
 use Rattle.sheets.specs.LentTables.{tooFew}
-use Rattle.blocks.specs.Blocks.{whole, cutAll, blocksOf}
+use Rattle.blocks.specs.Blocks.{PositionSet, every, whole, cutAll, blocksOf}
+use Rattle.blocks.specs.Flat.{blocksIn}
+use Rattle.blocks.proofs.FlatLaws as flat
 use Rattle.blocks.proofs.FlatLaws.{first-stands, first-fills}
-use Rattle.sheets.specs.ModelSheet.{judgePart, judgeSheet}
-use Rattle.sheets.specs.Holding.{taskOn}
+use Rattle.sheets.specs.ModelSheet.{columnsOf, columnOn, sheetWith, ofSheet, judgePart, judgeSheet}
+use Rattle.sheets.specs.Holding.{columnSaid, taskOn}
 use Rattle.unpack.specs.declared.Read.{Read}
-use Rattle.unpack.specs.Unpacking.{unpacked}
-use Rattle.sheet_laws.proofs.Given.{read-code, ok, given-task, given-accepted, given-columns}
+use Rattle.unpack.specs.Unpacking.{sizeOn, unpacked}
+use Rattle.sheet_laws.proofs.Held.{accepted-task, columns-said, column-said}
+use Rattle.sheet_laws.proofs.Given.{given-task, given-accepted}
 use Rattle.cut_sheets.specs.CutPart.{CutFields, cutsNamed, cutOn, countOf, judgeCuts}
 use Rattle.cut_sheets.specs.CutSheet.{tailOf, atFront, cutSheetChecks, cutValues, cutList, rebuildChecks}
 use Rattle.cut_sheets.specs.Judged.{Made, PartJudged}
@@ -64,6 +68,48 @@ module _ (a s : List ℕ) where
 pub rest-all : (s : List ℕ) (n : ℕ) → take (length s - n) (drop n s) ≡ drop n s
 rest-all s n = take-all (length s - n) (drop n s) (simp length-drop (omega arith))
 
+-- ---- block 0, from the sizes on a sheet
+unfoldable pub wholeOn : List ℕ → ℕ → PositionSet
+wholeOn m j = every (sizeOn m j)
+
+accepted : (m : List ℕ) → judgeSheet m ≡ 0 → Accepted (taskOn m)
+unfolding taskOn
+accepted m ok = accepted-task m ok
+
+module _ (m : List ℕ) where
+  size-on : (j : ℕ) → j < columnsOf m → sizeOf (taskOn m) (column j) ≡ sizeOn m j
+  unfolding taskOn sizeOf sizeOn noColumn columnSaid ofSheet sheetWith columnOn
+  size-on j h = ap (λ (c : ColumnEntry). c .size) (column-said (ofSheet m) j h)
+
+  columns-on : columnCount (taskOn m) ≡ columnsOf m
+  unfolding taskOn ofSheet sheetWith
+  columns-on = columns-said (ofSheet m)
+
+  pub whole-on : tab (columnsOf m) (wholeOn m) ≡ whole (taskOn m)
+  unfolding whole perColumn wholeOn
+  whole-on = rw columns-on (tab-ext (columnsOf m) _ _ (λ j h. ap every (sym (size-on j h))))
+
+  module _ (ok : judgeSheet m ≡ 0) {columns : ℕ} (w : columns ≡ columnsOf m) where
+    pub columns-small : columns ≤ limits .columns
+    columns-small = let k = accepted m ok .columns .1 in omega (arith, w, columns-on, k)
+
+    -- a size that was read
+    pub size-small : (j : ℕ) → j < columns → {r : ℕ} → r ≡ sizeOn m j → r ≤ limits .positions
+    size-small j h e = let k = accepted m ok .sizes (column j) (omega (arith, h, w, columns-on)) .1 in omega (arith, e, size-on j (omega (arith, h, w)), k)
+
+-- ---- block 0 alone, in the array
+module _ (m : List ℕ) (ok : judgeSheet m ≡ 0) {columns : ℕ} (w : columns ≡ columnsOf m) where
+  pub wide : columnCount (taskOn m) ≡ columns
+  wide = columns-on m ∙ sym w
+
+  pub whole-long : (sets : List ℕ) {next : List ℕ} → length sets ≡ 4096 → next ≡ over (whole (taskOn m)) sets → length next ≡ 4096
+  whole-long sets l n = let k = accepted m ok .columns .1 in ap length n ∙ flat.first-long (taskOn m) sets (omega (arith, k, l)) ∙ l
+
+  pub whole-block : (f : ℕ → CutFields) (sets : List ℕ) {next : List ℕ} → next ≡ over (whole (taskOn m)) sets → Made (taskOn m) f columns 0 next
+  unfolding blocksOf cutAll cutsNamed tab
+  whole-block f sets n =
+      ap (blocksIn columns 1) n ∙ subst (λ (k : ℕ). blocksIn k 1 (over (whole (taskOn m)) sets) ≡ whole (taskOn m) ∷ []) wide (flat.first-made (taskOn m) sets)
+
 -- ---- the given model
 module _ (m : List ℕ) {r : Read} (e : r ≡ unpacked m) where
   module _ (z : r .code ≡ 0) where
@@ -80,26 +126,25 @@ module _ (m s : List ℕ) where
   stops : {r : ℕ} (exit : List ℕ) → r ≡ refusal (cutSheetChecks m s) → (r ≡ 0 → ⊥) → SheetJudged m s r exit
   stops exit e z = record { refused = e; made = λ n. absurd (z n) }
 
-  pub stops-model : {r : Read} (exit : List ℕ) → r ≡ unpacked m → (r .code ≡ 0 → ⊥) → SheetJudged m s (r .code) exit
-  stops-model exit e z = stops exit (model-refused m s (read-code m e) z) z
+  pub stops-model : {a : ℕ} (exit : List ℕ) → a ≡ judgeSheet m → (a ≡ 0 → ⊥) → SheetJudged m s a exit
+  stops-model exit e z = stops exit (model-refused m s e z) z
 
-  pub stops-inner : {r : Read} {a : ℕ} (exit : List ℕ) → r ≡ unpacked m → r .code ≡ 0 → a ≡ judgePart s → (a ≡ 0 → ⊥) → SheetJudged m s a exit
-  stops-inner exit e z ea za = stops exit (inner-refused m s (ok m e z) ea za) za
+  pub stops-inner : {a : ℕ} (exit : List ℕ) → judgeSheet m ≡ 0 → a ≡ judgePart s → (a ≡ 0 → ⊥) → SheetJudged m s a exit
+  stops-inner exit ok e z = stops exit (inner-refused m s ok e z) z
 
-  pub stops-ten : {r : Read} {a : ℕ} (exit : List ℕ) → r ≡ unpacked m → r .code ≡ 0 → a ≡ judgePart s → a ≡ 0 → atFront m s ≡ false → SheetJudged m s 10 exit
-  stops-ten exit e z ea za h = stops exit (ten-refused m s (ok m e z) (sym ea ∙ za) h) (λ n. omega arith)
+  pub stops-ten : {a : ℕ} (exit : List ℕ) → judgeSheet m ≡ 0 → a ≡ judgePart s → a ≡ 0 → atFront m s ≡ false → SheetJudged m s 10 exit
+  stops-ten exit ok e z h = stops exit (ten-refused m s ok (sym e ∙ z) h) (λ n. omega arith)
 
   -- the cut part was judged, in the array that held block 0
-  pub ends : {r : Read} {x : ℕ} {part : List ℕ} (exit : List ℕ) → (e : r ≡ unpacked m) (z : r .code ≡ 0) → atFront m s ≡ true → part ≡ drop (length m) s
-      → PartJudged (taskOn m) part (r .model .columns) x exit → SheetJudged m s x exit
-  ends {r} {x} {part} exit e z front p j =
-      let okm = ok m e z in
-      let t : part ≡ tailOf s = p ∙ sym (tail-is m okm s front) in
+  pub ends : {x columns : ℕ} {part : List ℕ} (exit : List ℕ) → judgeSheet m ≡ 0 → columnCount (taskOn m) ≡ columns → atFront m s ≡ true → part ≡ drop (length m) s
+      → PartJudged (taskOn m) part columns x exit → SheetJudged m s x exit
+  ends {x} {columns} {part} exit ok w front p j =
+      let t : part ≡ tailOf s = p ∙ sym (tail-is m ok s front) in
       record {
-        refused = j .refusal ∙ ap (judgeCuts (taskOn m)) t ∙ sym (front-refusal m s okm front);
+        refused = j .refusal ∙ ap (judgeCuts (taskOn m)) t ∙ sym (front-refusal m s ok front);
         made = λ n.
             subst (λ (l : List ℕ). Made (taskOn m) (cutOn l) (columnCount (taskOn m)) (countOf l) exit) t
-            (subst (λ (k : ℕ). Made (taskOn m) (cutOn part) k (countOf part) exit) (sym (given-columns m e z)) (j .made n));
+            (subst (λ (k : ℕ). Made (taskOn m) (cutOn part) k (countOf part) exit) (sym w) (j .made n));
       }
 
 -- ---- rebuilding

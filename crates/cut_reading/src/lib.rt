@@ -2,18 +2,22 @@
 ghost use mathlib.Core.Path.{_≡_};
 ghost use Prim.Native.Nat.{_+_, _*_, _≤_, _<_};
 ghost use lib.ListN.{length};
+ghost use Rattle.task.specs.Loops.{over};
 ghost use Rattle.task.specs.Sizes.{limits};
 ghost use Rattle.fields.specs.Judging.{each};
 ghost use Rattle.fields.specs.Places.{puts};
+ghost use Rattle.sheets.specs.ModelSheet.{columnsOf, judgeSheet};
+ghost use Rattle.sheets.specs.Holding.{taskOn};
+ghost use Rattle.blocks.specs.Blocks.{whole};
 ghost use Rattle.cut_sheets.specs.CutPart.{cutOn};
 ghost use Rattle.cut_sheets.specs.CutSheet.{atFront, cutValues};
 ghost use Rattle.cut_reading.specs.Rebuilding.{SheetJudged, Rebuilds};
 use cut_sheets::judge_cut_part;
-use cutting::fill_first;
+use cutting::every_position;
 use fields::field::field;
 use sheets::judge_part;
+use sheets::judge_sheet;
 use task::Model;
-use unpack::unpack_model;
 
 // The number of cuts, or a refusal.
 pub enum CutsRebuilt {
@@ -38,6 +42,20 @@ fn at_front(a: &[u8], s: &[u8]) -> bool
     true
 }
 
+// Block 0 with every state of the model on an accepted sheet. The sizes are read where they stand: the model's tables would take stack below all that is
+// judged here.
+fn fill_whole(model: &[u8], columns: usize, sets: &mut [u32; Model::BLOCKS * Model::COLUMNS])
+    requires { ⌜ (judgeSheet (now model) ≡ 0) × (columns ≡ columnsOf (now model)) × (length (now sets) ≡ limits .blocks * limits .columns) ⌝ }
+    ensures { λ _. ⌜ now (sets .exit) ≡ over (whole (taskOn (now (model .entry)))) (now (sets .entry)) ⌝ }
+{
+    let mut j: usize = 0;
+    while j < columns {
+        let size = field(model, 17 + j * 17, 6) as u8;
+        sets[j] = every_position(size);
+        j += 1;
+    }
+}
+
 // The refusal of both sheets: the given model, the inner one, 10, the cut part; 0 for none, and the array then holds the blocks.
 pub fn judge_cut_sheet(
     model: &[u8],
@@ -47,8 +65,7 @@ pub fn judge_cut_sheet(
     requires { ⌜ length (now sets) ≡ limits .blocks * limits .columns ⌝ }
     ensures { λ r. ⌜ SheetJudged (now (model .entry)) (now (sheet .entry)) r (now (sets .exit)) ⌝ }
 {
-    let read = unpack_model(model);
-    let code = read.code;
+    let code = judge_sheet(model);
     if code != 0 {
         return code;
     }
@@ -59,9 +76,8 @@ pub fn judge_cut_sheet(
     if !at_front(model, sheet) {
         return 10;
     }
-    let given = read.model;
-    let columns = given.columns;
-    fill_first(given, sets);
+    let columns = field(model, 4, 5) as usize;
+    fill_whole(model, columns, sets);
     let start = model.len();
     judge_cut_part(&sheet[start..], columns, sets)
 }

@@ -17,7 +17,7 @@ use task::Model;
 use task::State;
 
 // Every position of a column of that size.
-fn every_position(size: u8) -> u32
+pub fn every_position(size: u8) -> u32
     requires { ⌜ size ≤ limits .positions ⌝ }
     ensures { λ r. ⌜ r ≡ every size ⌝ }
 {

@@ -67,7 +67,7 @@ module _ (p : Source) (hn : columnsIn p ≤ 16) where
 
 -- ---- what the task says of each column and step
 module _ (p : Source) where
-  columns-said : columnCount (taskIn p) ≡ columnsIn p
+  pub columns-said : columnCount (taskIn p) ≡ columnsIn p
   unfolding columnCount taskIn
   columns-said = tab-length (columnsIn p) (columnSaid (p .column))
 
@@ -75,7 +75,7 @@ module _ (p : Source) where
   unfolding stepCount taskIn
   steps-said = tab-length (stepsIn p) (stepSaid (p .cost) (p .marks) (columnsIn p))
 
-  column-said : (i : ℕ) → i < columnsIn p → getD (taskIn p .columns) i noColumn ≡ columnSaid (p .column) i
+  pub column-said : (i : ℕ) → i < columnsIn p → getD (taskIn p .columns) i noColumn ≡ columnSaid (p .column) i
   unfolding taskIn
   column-said i h = tab-at (columnsIn p) (columnSaid (p .column)) noColumn i h
 

@@ -1,78 +1,106 @@
 use mathlib.Core.Path.{sym, _∙_}
 use borrow.Author.Tests.{not-true, not-false}
 use lib.ListN.{length}
+use Rattle.sheets.specs.Holding.{taskOn}
 use Rattle.cut_sheets.proofs.CutSheetLaws.{front-take}
-use Rattle.cut_reading.proofs.RebuildLaws.{first-long, first-block, stops-model, stops-inner, stops-ten, ends, rest-all}
-use Rattle.sheet_laws.proofs.Given.{given-accepted, given-columns, few-columns}
+use Rattle.cut_reading.proofs.RebuildLaws.{rest-all, columns-small, wide, whole-long, whole-block, stops-model, stops-inner, stops-ten, ends}
 use borrow.Author.Needs.{needs}
 use Rattle.cut_reading.proofs.judge_cut_sheet.Statement.{statement}
 use Rattle.cut_reading.proofs.judge_cut_sheet.Tie as tie
-use Rattle.sheets.specs.Holding.{taskOn}
+use Rattle.cut_reading.proofs.judge_cut_sheet.Reads as reads
+use Rattle.cut_reading.proofs.judge_cut_sheet.Lts as lts
+use Rattle.cut_reading.proofs.at_front.Reads as at-front-reads
+use Rattle.cut_reading.proofs.fill_whole.Reads as fill-whole-reads
+use Rattle.cut_sheets.proofs.judge_cut_part.Reads as judge-cut-part-reads
+use Rattle.fields.proofs.field.field.Reads as field-reads
+use Rattle.sheets.proofs.judge_part.Reads as judge-part-reads
+use Rattle.sheets.proofs.judge_sheet.Reads as judge-sheet-reads
 
-unpack-model-requires : tie.Need-unpack-model-requires
-unpack-model-requires c κs = search needs
+-- src/lib.rt:72:9
+judge-sheet-requires : tie.Need-judge-sheet-requires
+judge-sheet-requires c κs = search needs
 
+-- src/lib.rt:74:9
 returns : tie.Need-returns
-returns c = stops-model (c .before .before .before .before .args .model .now) (c .before .before .before .before .args .sheet .now) _ (c .before .unpack-model .ensures) (c .if1 .taken)
+returns c = let g = c .before .before .before .before .args in
+    stops-model (g .model .now) (g .sheet .now) _ (c .before .judge-sheet .ensures) (c .if1 .taken)
 
+-- src/lib.rt:76:9
 judge-part-requires : tie.Need-judge-part-requires
 judge-part-requires c κs = search needs
 
+-- src/lib.rt:78:9
 returns-2 : tie.Need-returns-2
-returns-2 c = stops-inner (c .before .before .before .before .before .before .args .model .now) (c .before .before .before .before .before .before .args .sheet .now) _ (c .before .before .before .unpack-model .ensures) (c .before .before .if1 .left) (c .before .judge-part .ensures) (c .if2 .taken)
+returns-2 c = let g = c .before .before .before .before .before .before .args in
+    stops-inner (g .model .now) (g .sheet .now) _ (sym (c .before .before .before .judge-sheet .ensures) ∙ c .before .before .if1 .left) (c .before .judge-part .ensures) (c .if2 .taken)
 
+-- src/lib.rt:80:9
 at-front-requires : tie.Need-at-front-requires
 at-front-requires c κs = search needs
 
+-- src/lib.rt:81:9
 returns-3 : tie.Need-returns-3
-returns-3 c = stops-ten (c .before .before .before .before .before .before .before .before .args .model .now) (c .before .before .before .before .before .before .before .before .args .sheet .now) _ (c .before .before .before .before .before .unpack-model .ensures) (c .before .before .before .before .if1 .left) (c .before .before .before .judge-part .ensures) (c .before .before .if2 .left)
+returns-3 c = let g = c .before .before .before .before .before .before .before .before .args in
+    stops-ten (g .model .now) (g .sheet .now) _ (sym (c .before .before .before .before .before .judge-sheet .ensures) ∙ c .before .before .before .before .if1 .left) (c .before .before .before .judge-part .ensures) (c .before .before .if2 .left)
     (sym (c .before .at-front .ensures) ∙ not-true (c .before .at-front .result) (c .if3 .taken))
 
-fill-first-requires : tie.Need-fill-first-requires
-fill-first-requires c κs = (given-accepted (c .before .before .before .before .before .before .before .before .before .before .args .model .now) (c .before .before .before .before .before .before .before .unpack-model .ensures) (c .before .before .before .before .before .before .if1 .left), c .before .before .before .before .before .before .before .before .before .before .pre)
+-- src/lib.rt:83:19
+field-requires : tie.Need-field-requires
+field-requires c κs = search needs
 
+-- src/lib.rt:83:19
+cast-columns : tie.Need-cast-columns
+cast-columns c = search needs
+
+-- src/lib.rt:84:5
+fill-whole-requires : tie.Need-fill-whole-requires
+fill-whole-requires c κs = ((sym (c .before .before .before .before .before .before .before .judge-sheet .ensures) ∙ c .before .before .before .before .before .before .if1 .left), c .before .field .ensures, c .before .before .before .before .before .before .before .before .before .before .pre)
+
+-- src/lib.rt:86:20
 sub-judge-cut-part : tie.Need-sub-judge-cut-part
-sub-judge-cut-part c =
-    let g = c .before .before .before .before .before .before .before .before .before .before .before .args in
+sub-judge-cut-part c = let g = c .before .before .before .before .before .before .before .before .before .before .before .args in
     front-take (g .model .now) (g .sheet .now) (sym (c .before .before .before .before .at-front .ensures) ∙ not-false (c .before .before .before .before .at-front .result) (c .before .before .before .if3 .left)) .0
 
+-- src/lib.rt:86:20
 part-judge-cut-part-start : tie.Need-part-judge-cut-part-start
-part-judge-cut-part-start c =
-    let g = c .before .before .before .before .before .before .before .before .before .before .before .args in
+part-judge-cut-part-start c = let g = c .before .before .before .before .before .before .before .before .before .before .before .args in
     let h = front-take (g .model .now) (g .sheet .now) (sym (c .before .before .before .before .at-front .ensures) ∙ not-false (c .before .before .before .before .at-front .result) (c .before .before .before .if3 .left)) .0 in
     search needs
 
+-- src/lib.rt:86:20
 part-judge-cut-part-end : tie.Need-part-judge-cut-part-end
-part-judge-cut-part-end c =
-    let g = c .before .before .before .before .before .before .before .before .before .before .before .args in
+part-judge-cut-part-end c = let g = c .before .before .before .before .before .before .before .before .before .before .before .args in
     let h = front-take (g .model .now) (g .sheet .now) (sym (c .before .before .before .before .at-front .ensures) ∙ not-false (c .before .before .before .before .at-front .result) (c .before .before .before .if3 .left)) .0 in
     search needs
 
+-- src/lib.rt:86:5
 judge-cut-part-requires : tie.Need-judge-cut-part-requires
-judge-cut-part-requires c κs =
-    let g = c .before .before .before .before .before .before .before .before .before .before .before .before .before .args in
-    let u = c .before .before .before .before .before .before .before .before .before .before .unpack-model .ensures in
-    (few-columns (g .model .now) u (c .before .before .before .before .before .before .before .before .before .if1 .left), first-long (g .model .now) u (c .before .before .before .before .before .before .before .before .before .if1 .left) (g .sets .now) (c .before .before .before .before .before .before .before .before .before .before .before .before .before .pre) (c .before .before .fill-first .ensures))
+judge-cut-part-requires c κs = let g = c .before .before .before .before .before .before .before .before .before .before .before .before .before .args in
+    let k = (sym (c .before .before .before .before .before .before .before .before .before .before .judge-sheet .ensures) ∙ c .before .before .before .before .before .before .before .before .before .if1 .left) in
+    let w = c .before .before .before .before .field .ensures in
+    (columns-small (g .model .now) k w, whole-long (g .model .now) k w (g .sets .now) (c .before .before .before .before .before .before .before .before .before .before .before .before .before .pre) (c .before .before .fill-whole .ensures))
 
+-- src/lib.rt:64:1
 returns-4 : tie.Need-returns-4
 returns-4 c = let g = c .before .before .before .before .before .before .before .before .before .before .before .before .before .before .args in
-    let e = c .before .before .before .before .before .before .before .before .before .before .before .unpack-model .ensures in
-    let z = c .before .before .before .before .before .before .before .before .before .before .if1 .left in
-    let front = sym (c .before .before .before .before .before .before .before .at-front .ensures) ∙ not-false (c .before .before .before .before .before .before .before .at-front .result) (c .before .before .before .before .before .before .if3 .left) in
-    ends (g .model .now) (g .sheet .now) _ e z front (rest-all (g .sheet .now) (length (g .model .now)))
-    (c .judge-cut-part .ensures (taskOn (g .model .now)) (given-columns (g .model .now) e z) (first-block (g .model .now) e z _ (g .sets .now) (c .before .before .before .fill-first .ensures)))
+    let k = (sym (c .before .before .before .before .before .before .before .before .before .before .before .judge-sheet .ensures) ∙ c .before .before .before .before .before .before .before .before .before .before .if1 .left) in
+    let w = c .before .before .before .before .before .field .ensures in
+    ends (g .model .now) (g .sheet .now) _ k (wide (g .model .now) k w) (sym (c .before .before .before .before .before .before .before .at-front .ensures) ∙ not-false (c .before .before .before .before .before .before .before .at-front .result) (c .before .before .before .before .before .before .if3 .left)) (rest-all (g .sheet .now) (length (g .model .now)))
+    (c .judge-cut-part .ensures (taskOn (g .model .now)) (wide (g .model .now) k w) (whole-block (g .model .now) k w _ (g .sets .now) (c .before .before .before .fill-whole .ensures)))
 
 pub judge-cut-sheet-spec : {M : Type 1} → statement M
 judge-cut-sheet-spec =
     tie.close
     (tie.spec
-    unpack-model-requires
+    judge-sheet-requires
     returns
     judge-part-requires
     returns-2
     at-front-requires
     returns-3
-    fill-first-requires
+    field-requires
+    cast-columns
+    fill-whole-requires
     sub-judge-cut-part
     part-judge-cut-part-start
     part-judge-cut-part-end
