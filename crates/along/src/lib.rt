@@ -109,7 +109,8 @@ pub fn fill_along(
     estimates: &mut [u32; Model::LOG + 1],
 )
     requires { ⌜ (columns ≤ limits .columns) × (length (now here) ≡ limits .columns) × (length (now log) ≤ limits .log) ×
-        (length (now estimates) ≡ limits .log + 1) ⌝ ∗ ⌜ ((i : ℕ) → i < length (now log) → getD (now log) i 0 < limits .steps) ⌝ ∗ ⌜ Cuts count (now cuts) (now dist) ⌝ }
+        (length (now estimates) ≡ limits .log + 1) ⌝ ∗ ⌜ ((i : ℕ) → i < length (now log) → getD (now log) i 0 < limits .steps) ⌝
+        ∗ ⌜ Cuts count (now cuts) (now dist) ⌝ }
     ensures { λ _. ⌜ now (estimates .exit)
         ≡ over (tab (length (now (log .entry)) + 1)
         (costAfter columns (now (lands .entry)) count (now (cuts .entry)) (now (dist .entry)) (now (log .entry)) (now (here .entry))))

@@ -65,7 +65,7 @@ module _ (t : Task) (bytes : List ℕ) (good : badStates t bytes ≡ false) wher
           subst (λ p. p .0 < sizeOf t j) (sym (tab-at (columnCount t) (placeIn (columnCount t) bytes k) (position 0) (j .0) l)) (rw m at f)
 
 -- ---- one estimate
-module _ (t : Task) (v : Accepted t) (l : List ℕ) (count : ℕ) (ok : accepted t (cutsIn count l) ≡ true) (few : count < 256) where
+module _ (t : Task) (v : Accepted t) (l : List ℕ) (count : ℕ) (ok : accepted t (cutsIn count l) ≡ true) (few : count < limits .blocks) where
   wide-front : (bytes : List ℕ) (k : ℕ) → take (columnCount t) (wideState (columnCount t) bytes k) ≡ stateIn (columnCount t) bytes k
   unfolding wideState over
   wide-front bytes k =

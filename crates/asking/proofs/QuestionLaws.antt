@@ -28,7 +28,7 @@ use Rattle.asking.proofs.ListLaws.{column-listed, cuts-listed}
 
 -- The cuts of an accepted part in a list, and the distances of their blocks.
 module _ (t : Task) {columns : ℕ} (wide : columnCount t ≡ columns) (v : Accepted t) (part sets : List ℕ) (ok : judgeCuts t part ≡ 0) (stand : Made t (cutOn part) columns (countOf part) sets)
-    {count : ℕ} (e : count ≡ countOf part) (few : count < 256) (old : List ℕ) (room : count * 3 ≤ length old)
+    {count : ℕ} (e : count ≡ countOf part) (few : count < limits .blocks) (old : List ℕ) (room : count * 3 ≤ length old)
     {cuts : List ℕ} (f : cuts ≡ puts 0 (each count (cutValues (cutOn part))) old) where
   pub list : cutsIn count cuts ≡ cutsNamed (cutOn part) (countOf part)
   list = ap (cutsIn count) f ∙ cuts-listed (cutOn part) count old room ∙ ap (cutsNamed (cutOn part)) e

@@ -102,7 +102,7 @@ module _ (m : List ℕ) (ok : judgeSheet m ≡ 0) {columns : ℕ} (w : columns �
   pub wide : columnCount (taskOn m) ≡ columns
   wide = columns-on m ∙ sym w
 
-  pub whole-long : (sets : List ℕ) {next : List ℕ} → length sets ≡ 4096 → next ≡ over (whole (taskOn m)) sets → length next ≡ 4096
+  pub whole-long : (sets : List ℕ) {next : List ℕ} → length sets ≡ limits .blocks * limits .columns → next ≡ over (whole (taskOn m)) sets → length next ≡ limits .blocks * limits .columns
   whole-long sets l n = let k = accepted m ok .columns .1 in ap length n ∙ flat.first-long (taskOn m) sets (omega (arith, k, l)) ∙ l
 
   pub whole-block : (f : ℕ → CutFields) (sets : List ℕ) {next : List ℕ} → next ≡ over (whole (taskOn m)) sets → Made (taskOn m) f columns 0 next
@@ -114,7 +114,7 @@ module _ (m : List ℕ) (ok : judgeSheet m ≡ 0) {columns : ℕ} (w : columns �
 module _ (m : List ℕ) {r : Read} (e : r ≡ unpacked m) where
   module _ (z : r .code ≡ 0) where
     -- block 0 alone, in the array
-    pub first-long : (sets : List ℕ) {next : List ℕ} → length sets ≡ 4096 → next ≡ over (whole (taskOf (r .model))) sets → length next ≡ 4096
+    pub first-long : (sets : List ℕ) {next : List ℕ} → length sets ≡ limits .blocks * limits .columns → next ≡ over (whole (taskOf (r .model))) sets → length next ≡ limits .blocks * limits .columns
     first-long sets l n = first-fills (r .model) sets n (given-accepted m e z .columns .1) l
 
     pub first-block : (f : ℕ → CutFields) (sets : List ℕ) {next : List ℕ} → next ≡ over (whole (taskOf (r .model))) sets → Made (taskOn m) f (r .model .columns) 0 next

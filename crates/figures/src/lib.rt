@@ -51,7 +51,8 @@ pub fn put_rows(costs: &[u16], log: &[u32], estimates: &[u32; Model::LOG + 1], r
     requires { ⌜ (length (now log) ≤ limits .log) × (length (now log) * 3 ≤ length (now rows)) ⌝
         ∗ ⌜ ((i : ℕ) → i < length (now log) → getD (now log) i 0 < length (now costs)) ⌝
         ∗ ⌜ ((i : ℕ) → i ≤ length (now log) → getD (now estimates) i 0 ≤ limits .«no_way») ⌝ }
-    ensures { λ _. ⌜ now (rows .exit) ≡ puts 0 (each (length (now (log .entry))) (rowBy (now (costs .entry)) (now (log .entry)) (now (estimates .entry)))) (now (rows .entry)) ⌝ }
+    ensures { λ _. ⌜ now (rows .exit)
+        ≡ puts 0 (each (length (now (log .entry))) (rowBy (now (costs .entry)) (now (log .entry)) (now (estimates .entry)))) (now (rows .entry)) ⌝ }
 {
     let mut i: usize = 0;
     while i < log.len() {

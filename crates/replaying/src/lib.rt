@@ -38,7 +38,8 @@ fn fill_tables(
     goals: &mut [u32; Model::COLUMNS],
     here: &mut [u32; Model::COLUMNS],
 ) -> Frame
-    requires { ⌜ judgeSheet (now model) ≡ 0 ⌝ ∗ ⌜ (length (now needs) ≡ limits .steps * limits .columns) × (length (now lands) ≡ limits .steps * limits .columns) ⌝
+    requires { ⌜ judgeSheet (now model) ≡ 0 ⌝
+        ∗ ⌜ (length (now needs) ≡ limits .steps * limits .columns) × (length (now lands) ≡ limits .steps * limits .columns) ⌝
         ∗ ⌜ (length (now goals) ≡ limits .columns) × (length (now here) ≡ limits .columns) ⌝ }
     ensures { λ r. ⌜ Tabled (taskOn (now (model .entry))) r (now (needs .exit)) (now (lands .exit)) (now (goals .exit)) (now (here .exit)) ⌝ }
 {
@@ -69,7 +70,8 @@ fn replay_on(
 ) -> Replayed
     requires { ⌜ Sheets (now model) (now part) (now sets) ⌝ ∗ ⌜ length (now log) ≤ limits .log ⌝ }
     ensures { λ r. ⌜ outcome r (now (rows .exit))
-        ≡ replayedOn (taskOn (now (model .entry))) (cutsNamed (cutOn (now (part .entry))) (countOf (now (part .entry)))) (now (log .entry)) (now (rows .entry)) ⌝ }
+        ≡ replayedOn (taskOn (now (model .entry))) (cutsNamed (cutOn (now (part .entry))) (countOf (now (part .entry))))
+        (now (log .entry)) (now (rows .entry)) ⌝ }
 {
     let mut needs = [0u32; Model::STEPS * Model::COLUMNS];
     let mut lands = [0u32; Model::STEPS * Model::COLUMNS];

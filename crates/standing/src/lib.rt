@@ -28,7 +28,8 @@ fn alone(position: Position) -> u32
 
 // A state as sets of one position each.
 pub fn stand(columns: usize, state: State, here: &mut [u32; Model::COLUMNS])
-    requires { ⌜ (columns ≤ limits .columns) × (length (now here) ≡ limits .columns) × ((j : ℕ) → j < columns → getD state j (position 0) .0 < limits .positions) ⌝ }
+    requires { ⌜ (columns ≤ limits .columns) × (length (now here) ≡ limits .columns) ×
+        ((j : ℕ) → j < columns → getD state j (position 0) .0 < limits .positions) ⌝ }
     ensures { λ _. ⌜ now (here .exit) ≡ over (tab columns (λ j. only (getD state j (position 0)))) (now (here .entry)) ⌝ }
 {
     let mut j: usize = 0;
