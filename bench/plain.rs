@@ -437,11 +437,18 @@ fn at_front(a: &[u8], s: &[u8]) -> bool {
     true
 }
 
+// Block 0, from the sizes on an accepted sheet.
+fn fill_whole(model: &[u8], columns: usize, sets: &mut Sets) {
+    for j in 0..columns {
+        sets[j] = every_position(field(model, 17 + j * 17, 6) as u8);
+    }
+}
+
 fn judge_cut_sheet(model: &[u8], sheet: &[u8], sets: &mut Sets) -> u8 {
-    let given = match unpack_model(model) {
-        Ok(m) => m,
-        Err(code) => return code,
-    };
+    let code = judge_sheet(model);
+    if code != 0 {
+        return code;
+    }
     let inner = judge_part(sheet);
     if inner != 0 {
         return inner;
@@ -449,8 +456,9 @@ fn judge_cut_sheet(model: &[u8], sheet: &[u8], sets: &mut Sets) -> u8 {
     if !at_front(model, sheet) {
         return 10;
     }
-    fill_first(&given, sets);
-    judge_cut_part(&sheet[model.len()..], given.columns, sets)
+    let columns = field(model, 4, 5) as usize;
+    fill_whole(model, columns, sets);
+    judge_cut_part(&sheet[model.len()..], columns, sets)
 }
 
 fn fill_cuts(part: &[u8], count: usize, cuts: &mut [u32]) {
