@@ -10,10 +10,9 @@ use lib.Dec.{eqb, ltb}
 use lib.ListN.{length, getD}
 use borrow.Author.Tests.{lt-ltb, le-ltb, ltb-true, eq-eqb, ne-eqb}
 use Rattle.task.specs.Loops.{when, first}
-use Rattle.task.proofs.LoopLaws.{and-left}
+use Rattle.task.proofs.LoopLaws.{and-left, first-more, first-here}
 use Rattle.blocks.specs.Blocks.{PositionSet, common, isEmpty}
 use Rattle.standing.specs.Standing.{takesBy, takenBy}
-use Rattle.trace.proofs.HopLaws.{first-more, first-here}
 use Rattle.along.specs.Along.{hereAfter, goesBy, stopAt, stopRow, sendsOn, blockBy, costBy, costAfter}
 
 -- ---- where the state stands

@@ -12,17 +12,14 @@ ghost use Rattle.along.specs.Along.{goesBy, stopRow, blockBy, costBy, co
 use standing::can_take;
 use standing::take;
 use task::Block;
+use task::ColumnSets;
+use task::Distances;
 use task::Model;
 use task::Step;
+use task::StepSets;
 
 // Whether a log's number is a known step that can be taken.
-fn may_go(
-    columns: usize,
-    steps: usize,
-    s: u32,
-    needs: &[u32; Model::STEPS * Model::COLUMNS],
-    here: &[u32; Model::COLUMNS],
-) -> bool
+fn may_go(columns: usize, steps: usize, s: u32, needs: &StepSets, here: &ColumnSets) -> bool
     requires { ⌜ (columns ≤ limits .columns) × (steps ≤ limits .steps) ⌝ }
     ensures { λ r. ⌜ r ≡ goesBy columns steps (now (needs .entry)) (now (here .entry)) s ⌝ }
 {
@@ -36,10 +33,10 @@ fn may_go(
 pub fn judge_log(
     columns: usize,
     steps: usize,
-    needs: &[u32; Model::STEPS * Model::COLUMNS],
-    lands: &[u32; Model::STEPS * Model::COLUMNS],
+    needs: &StepSets,
+    lands: &StepSets,
     log: &[u32],
-    here: &mut [u32; Model::COLUMNS],
+    here: &mut ColumnSets,
 ) -> usize
     requires { ⌜ (columns ≤ limits .columns) × (steps ≤ limits .steps) × (length (now here) ≡ limits .columns) × (length (now log) ≤ limits .log) ⌝ }
     ensures { λ r. ⌜ r ≡ stopRow columns steps (now (needs .entry)) (now (lands .entry)) (now (log .entry)) (now (here .entry)) ⌝ }
@@ -67,7 +64,7 @@ fn sends_on(block: u32, wanted: u32, here: u32, a: u32) -> bool
 }
 
 // The block of the state that stands here.
-fn block_here(count: usize, cuts: &[u32], here: &[u32; Model::COLUMNS]) -> Block
+fn block_here(count: usize, cuts: &[u32], here: &ColumnSets) -> Block
     requires { ⌜ (count < limits .blocks) × (count * 3 ≤ length (now cuts)) × ((i : ℕ) → i < count → getD (now cuts) (i * 3 + 1) 0 < limits .columns) ⌝ }
     ensures { λ r. ⌜ (r .0 ≡ blockBy (now (cuts .entry)) (now (here .entry)) count) × (r .0 ≤ count) ⌝ }
 {
@@ -84,12 +81,7 @@ fn block_here(count: usize, cuts: &[u32], here: &[u32; Model::COLUMNS]) -> Block
 }
 
 // The cost from the state that stands here on, from a table of distances.
-fn cost_here(
-    count: usize,
-    cuts: &[u32],
-    dist: &[u64; Model::BLOCKS],
-    here: &[u32; Model::COLUMNS],
-) -> u32
+fn cost_here(count: usize, cuts: &[u32], dist: &Distances, here: &ColumnSets) -> u32
     requires { ⌜ Cuts count (now cuts) (now dist) ⌝ }
     ensures { λ r. ⌜ r ≡ costBy count (now (cuts .entry)) (now (dist .entry)) (now (here .entry)) ⌝ }
 {
@@ -100,12 +92,12 @@ fn cost_here(
 // The estimates along a log: one before each row, and one after the last.
 pub fn fill_along(
     columns: usize,
-    lands: &[u32; Model::STEPS * Model::COLUMNS],
+    lands: &StepSets,
     count: usize,
     cuts: &[u32],
-    dist: &[u64; Model::BLOCKS],
+    dist: &Distances,
     log: &[u32],
-    here: &mut [u32; Model::COLUMNS],
+    here: &mut ColumnSets,
     estimates: &mut [u32; Model::LOG + 1],
 )
     requires { ⌜ (columns ≤ limits .columns) × (length (now here) ≡ limits .columns) × (length (now log) ≤ limits .log) ×

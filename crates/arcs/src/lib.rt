@@ -8,7 +8,10 @@ ghost use Rattle.task.specs.Sizes.{limits};
 ghost use Rattle.blocks.specs.Flat.{past, rowOf};
 ghost use Rattle.arcs.specs.Arcs.{fitsIn};
 ghost use Rattle.arcs.specs.Words.{words, wordOf, bitAt, needIn, meetsIn, heldIn, openIn, RowAble, Able, RowMet, Met, Opened, wideIn, Listed, Narrow, keptPart, keptWord};
+use task::BlockSets;
+use task::ColumnSets;
 use task::Model;
+use task::StepSets;
 
 // Sets of blocks stand in words of 32 bits, a bit for each block.
 pub const WORD: usize = 32;
@@ -24,13 +27,7 @@ fn bit_if(t: bool, i: usize) -> u32
 }
 
 // Whether what step s wants lies in block a.
-pub fn fits_in(
-    columns: usize,
-    s: usize,
-    a: usize,
-    wants: &[u32; Model::STEPS * Model::COLUMNS],
-    sets: &[u32; Model::BLOCKS * Model::COLUMNS],
-) -> bool
+pub fn fits_in(columns: usize, s: usize, a: usize, wants: &StepSets, sets: &BlockSets) -> bool
     requires { ⌜ (columns ≤ limits .columns) × (s < limits .steps) × (a < limits .blocks) ⌝ }
     ensures { λ r. ⌜ r ≡ fitsIn columns (now (wants .entry)) (now (sets .entry)) s a ⌝ }
 {
@@ -40,7 +37,7 @@ pub fn fits_in(
 }
 
 // The blocks of word w that hold a need in column j, as a mask.
-fn need_word(w: usize, j: usize, need: u32, sets: &[u32; Model::BLOCKS * Model::COLUMNS]) -> u32
+fn need_word(w: usize, j: usize, need: u32, sets: &BlockSets) -> u32
     requires { ⌜ (w < words) × (j < limits .columns) ⌝ }
     ensures { λ r. ⌜ r ≡ wordOf (needIn (now (sets .entry)) need j) w ⌝ }
 {
@@ -55,13 +52,7 @@ fn need_word(w: usize, j: usize, need: u32, sets: &[u32; Model::BLOCKS * Model::
 }
 
 // The blocks of a mask that hold a need too.
-fn with_need(
-    v: u32,
-    w: usize,
-    j: usize,
-    need: u32,
-    sets: &[u32; Model::BLOCKS * Model::COLUMNS],
-) -> u32
+fn with_need(v: u32, w: usize, j: usize, need: u32, sets: &BlockSets) -> u32
     requires { ⌜ (w < words) × (j < limits .columns) ⌝ }
     ensures { λ r. ⌜ r ≡ bitAnd v (wordOf (needIn (now (sets .entry)) need j) w) ⌝ }
 {
@@ -75,13 +66,7 @@ fn with_need(
 }
 
 // The blocks of word w from which step s can be taken, as a mask.
-fn able_word(
-    columns: usize,
-    s: usize,
-    w: usize,
-    needs: &[u32; Model::STEPS * Model::COLUMNS],
-    sets: &[u32; Model::BLOCKS * Model::COLUMNS],
-) -> u32
+fn able_word(columns: usize, s: usize, w: usize, needs: &StepSets, sets: &BlockSets) -> u32
     requires { ⌜ (columns ≤ limits .columns) × (s < limits .steps) × (w < words) ⌝ }
     ensures { λ r. ⌜ r ≡ wordOf (fitsIn columns (now (needs .entry)) (now (sets .entry)) s) w ⌝ }
 {
@@ -100,8 +85,8 @@ fn fill_row(
     columns: usize,
     steps: usize,
     w: usize,
-    needs: &[u32; Model::STEPS * Model::COLUMNS],
-    sets: &[u32; Model::BLOCKS * Model::COLUMNS],
+    needs: &StepSets,
+    sets: &BlockSets,
     able: &mut [u32; WORDS * Model::STEPS],
 )
     requires { ⌜ (columns ≤ limits .columns) × (steps ≤ limits .steps) × (w < words) × (length (now able) ≡ words * limits .steps) ⌝ }
@@ -120,8 +105,8 @@ pub fn fill_able(
     columns: usize,
     steps: usize,
     used: usize,
-    needs: &[u32; Model::STEPS * Model::COLUMNS],
-    sets: &[u32; Model::BLOCKS * Model::COLUMNS],
+    needs: &StepSets,
+    sets: &BlockSets,
     able: &mut [u32; WORDS * Model::STEPS],
 )
     requires { ⌜ (columns ≤ limits .columns) × (steps ≤ limits .steps) × (used ≤ words) × (length (now able) ≡ words * limits .steps) ⌝ }
@@ -135,7 +120,7 @@ pub fn fill_able(
 }
 
 // The blocks of word w that meet a set in column j, as a mask.
-fn meet_word(w: usize, j: usize, set: u32, sets: &[u32; Model::BLOCKS * Model::COLUMNS]) -> u32
+fn meet_word(w: usize, j: usize, set: u32, sets: &BlockSets) -> u32
     requires { ⌜ (w < words) × (j < limits .columns) ⌝ }
     ensures { λ r. ⌜ r ≡ wordOf (meetsIn (now (sets .entry)) set j) w ⌝ }
 {
@@ -154,7 +139,7 @@ fn fill_column(
     used: usize,
     j: usize,
     set: u32,
-    sets: &[u32; Model::BLOCKS * Model::COLUMNS],
+    sets: &BlockSets,
     meets: &mut [u32; Model::COLUMNS * WORDS],
 )
     requires { ⌜ (used ≤ words) × (j < limits .columns) × (length (now meets) ≡ limits .columns * words) ⌝ }
@@ -174,7 +159,7 @@ fn renew_column(
     j: usize,
     old: u32,
     set: u32,
-    sets: &[u32; Model::BLOCKS * Model::COLUMNS],
+    sets: &BlockSets,
     meets: &mut [u32; Model::COLUMNS * WORDS],
 )
     requires { ⌜ (used ≤ words) × (j < limits .columns) × (length (now meets) ≡ limits .columns * words) ⌝ ∗ ⌜ RowMet used (now sets) j old (now meets) (now meets) ⌝ }
@@ -191,8 +176,8 @@ pub fn fill_meets(
     columns: usize,
     used: usize,
     b: usize,
-    sets: &[u32; Model::BLOCKS * Model::COLUMNS],
-    held: &mut [u32; Model::COLUMNS],
+    sets: &BlockSets,
+    held: &mut ColumnSets,
     meets: &mut [u32; Model::COLUMNS * WORDS],
 )
     requires { ⌜ (columns ≤ limits .columns) × (used ≤ words) × (b < limits .blocks) × (length (now held) ≡ limits .columns) × (length (now meets) ≡ limits .columns * words) ⌝ ∗ ⌜ Met columns used (now sets) (heldIn (now held)) (now meets) ⌝ }
@@ -303,7 +288,7 @@ pub fn kept_word(
     w: usize,
     first: u32,
     narrow: &[usize; Model::COLUMNS],
-    lands: &[u32; Model::STEPS * Model::COLUMNS],
+    lands: &StepSets,
     meets: &[u32; Model::COLUMNS * WORDS],
 ) -> u32
     requires { ⌜ (few ≤ limits .columns) × (s < limits .steps) × (w < words) ⌝ ∗ ⌜ Listed few (now narrow) ⌝ }

@@ -2,7 +2,7 @@
 use Prim.Native.Nat.{ℕ, _/_, _≤_, _<_}
 use native.Mathlib.Omega.{arith}
 use mathlib.Core.Path.{_≡_, refl, sym, ap, ap₂, _∙_}
-use mathlib.Core.Bool.{Bool, true, false}
+use mathlib.Core.Bool.{Bool, true, false, cond}
 use mathlib.Core.List.{List, [], _∷_}
 use lib.Dec.{ltb}
 use lib.ListN.{length, getD}
@@ -11,7 +11,7 @@ use Rattle.task.specs.Loops.{over}
 use Rattle.task.specs.Tables.{taskOf}
 use Rattle.task.specs.Task.{Task, Accepted, column, columnCount, sizeOf}
 use Rattle.task.proofs.TableLaws.{columns-of, size-of}
-use Rattle.fields.specs.Judging.{check, pick, refusal}
+use Rattle.fields.specs.Judging.{check, refusal}
 use Rattle.fields.proofs.JudgingLaws.{stop, go, applies, passes, no-checks, refusal-append, refused-is}
 use Rattle.sheets.specs.LentTables.{tooFew}
 use Rattle.sheets.specs.Holding.{taskOn}
@@ -27,11 +27,11 @@ use Rattle.asking.specs.declared.Asked.the-variants.{Estimates, Refused}
 use Rattle.asking.specs.Question.{statesIn, badStates, estimatesOf, questionChecks, outcome, asking, Asks}
 
 -- the answer of the code that judges states
-eleven : (b : Bool) {r : ℕ} → r ≡ pick b 11 0 → (r ≡ 0 → ⊥) → (b ≡ true) × (r ≡ 11)
+eleven : (b : Bool) {r : ℕ} → r ≡ cond b 11 0 → (r ≡ 0 → ⊥) → (b ≡ true) × (r ≡ 11)
 eleven true e z = (refl, e)
 eleven false e z = absurd (z e)
 
-fine : (b : Bool) {r : ℕ} → r ≡ pick b 11 0 → r ≡ 0 → b ≡ false
+fine : (b : Bool) {r : ℕ} → r ≡ cond b 11 0 → r ≡ 0 → b ≡ false
 fine true e z = absurd (omega arith)
 fine false e z = refl
 
@@ -72,8 +72,8 @@ module _ (m s states est : List ℕ) where
         unfolding statesIn
         asked = ap (λ (n : ℕ). length states / n) (given-columns m e code)
 
-        module _ {bad : ℕ} (b : (t : Task) → columnCount t ≡ read .model .columns → ((j : ℕ) → j < read .model .columns → sizeOf t (column j) ≡ getD (read .model .size) j 0) → bad ≡ pick (badStates t states) 11 0) where
-          said : bad ≡ pick (badStates (taskOf (read .model)) states) 11 0
+        module _ {bad : ℕ} (b : (t : Task) → columnCount t ≡ read .model .columns → ((j : ℕ) → j < read .model .columns → sizeOf t (column j) ≡ getD (read .model .size) j 0) → bad ≡ cond (badStates t states) 11 0) where
+          said : bad ≡ cond (badStates (taskOf (read .model)) states) 11 0
           said = b (taskOf (read .model)) (columns-of (read .model)) (λ j h. size-of (read .model) (column j) h)
 
           -- a refusal of the states

@@ -3,7 +3,7 @@ use Prim.Native.Nat.{ℕ, suc, _+_, _*_, _/_, _%_, _≤_, _<_}
 use native.Mathlib.Omega.{arith}
 use native.Mathlib.Nat.{mod-lt, suc-mul, mul-le-mul, le-refl, div-mul-le-self}
 use mathlib.Core.Path.{_≡_, refl, sym, ap, _∙_, subst}
-use mathlib.Core.Bool.{Bool, true, false, not, _||_}
+use mathlib.Core.Bool.{Bool, true, false, not, _||_, cond}
 use mathlib.Core.List.{List}
 use lib.Dec.{eqb, ltb}
 use lib.ListN.{length, getD}
@@ -12,7 +12,6 @@ use Rattle.task.specs.Loops.{all}
 use Rattle.task.specs.Sizes.{limits}
 use Rattle.task.specs.Task.{Task, position, column, columnCount, sizeOf}
 use Rattle.task.proofs.LoopLaws.{all-ext, all-more, all-fails, over-at}
-use Rattle.fields.specs.Judging.{pick}
 use Rattle.asking.specs.Question.{badStates, statesIn, placeIn, stateIn, wideState}
 
 module _ (sizes : List ℕ) (n : ℕ) (bytes : List ℕ) where
@@ -64,8 +63,8 @@ module _ (sizes : List ℕ) (n : ℕ) (bytes : List ℕ) where
   all-good e l h = rw (eq-eqb (length bytes % n) 0 e) (rw (le-ltb 64 (length bytes / n) l) (ap not h))
 
   -- what the code answers, for every task of these sizes
-  pub answers : 1 ≤ n → {b : Bool} → badBy ≡ b → (t : Task) → columnCount t ≡ n → ((j : ℕ) → j < n → sizeOf t (column j) ≡ getD sizes j 0) → _≡_ {A = ℕ} (pick b 11 0) (pick (badStates t bytes) 11 0)
-  answers pos e t hc hs = ap (λ x. pick x 11 0) (sym e ∙ bad-said pos t hc hs)
+  pub answers : 1 ≤ n → {b : Bool} → badBy ≡ b → (t : Task) → columnCount t ≡ n → ((j : ℕ) → j < n → sizeOf t (column j) ≡ getD sizes j 0) → _≡_ {A = ℕ} (cond b 11 0) (cond (badStates t bytes) 11 0)
+  answers pos e t hc hs = ap (λ x. cond x 11 0) (sym e ∙ bad-said pos t hc hs)
 
 -- a state that is asked about lies within the bytes
 pub state-room : (n k len : ℕ) → k < len / n → k * n + n ≤ len

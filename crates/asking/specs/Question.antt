@@ -1,7 +1,7 @@
 -- 01, "Sheets": a question takes a model sheet, a cut sheet and states of one byte per column, and writes one estimate per state.
 use Prim.Native.Nat.{ℕ, _+_, _*_, _/_, _%_}
 use mathlib.Core.Path.{_≡_}
-use mathlib.Core.Bool.{Bool, not, _||_}
+use mathlib.Core.Bool.{Bool, not, _||_, cond}
 use mathlib.Core.List.{List, [], _∷_, _++_}
 use mathlib.Core.Option.{Option, none, some, Option·getD}
 use lib.Dec.{eqb, ltb}
@@ -10,7 +10,7 @@ use Rattle.task.specs.declared.Position.{Position}
 use Rattle.task.specs.Loops.{all, tab, over}
 use Rattle.task.specs.Sizes.{limits}
 use Rattle.task.specs.Task.{Task, State, column, position, columnCount, sizeOf}
-use Rattle.fields.specs.Judging.{Check, check, pick, refusal}
+use Rattle.fields.specs.Judging.{Check, check, refusal, unlessRefused}
 use Rattle.sheets.specs.LentTables.{tooFew}
 use Rattle.sheets.specs.Holding.{unused, taskOn}
 use Rattle.blocks.specs.declared.Cut.{Cut}
@@ -56,7 +56,7 @@ estimatesOf t cs states = tab (statesIn t states) (estimateAt t cs states)
 
 -- what a written value says of its state
 unfoldable pub valued : ℕ → Option ℕ
-valued v = pick (eqb v (limits .«no_way»)) none (some v)
+valued v = cond (eqb v (limits .«no_way»)) none (some v)
 
 -- ---- a question
 
@@ -80,10 +80,9 @@ outcome a estimates = record { answer = a; estimates = estimates }
 -- a refusal returns only its number and changes nothing lent; else one estimate for each state, and places past the last one stay
 unfoldable pub asking : List ℕ → List ℕ → List ℕ → List ℕ → Outcome
 asking model s states estimates =
-    let n = refusal (questionChecks model s states estimates) in
-    pick (eqb n 0)
+    unlessRefused (refusal (questionChecks model s states estimates))
     (outcome (Estimates (statesIn (taskOn model) states)) (over (estimatesOf (taskOn model) (cutsOf s) states) estimates))
-    (outcome (Refused n) estimates)
+    (λ n. outcome (Refused n) estimates)
 
 -- what `question` promises, whatever is passed: the answer and the list at exit
 abbrev pub Asks : (model s states estimates : List ℕ) → Asked → (estimates′ : List ℕ) → Type 0

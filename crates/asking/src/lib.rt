@@ -1,13 +1,12 @@
 // Asking for the estimates of states: the states judged and read, and one estimate written for each.
 ghost use mathlib.Core.Path.{_≡_};
-ghost use mathlib.Core.Bool.{false};
+ghost use mathlib.Core.Bool.{false, cond};
 ghost use Prim.Native.Nat.{ℕ, _+_, _*_, _/_, _≤_, _<_};
 ghost use lib.ListN.{length, getD};
 ghost use Rattle.task.specs.Loops.{tab, over};
 ghost use Rattle.task.specs.Sizes.{limits};
 ghost use Rattle.task.specs.Tables.{taskOf};
 ghost use Rattle.task.specs.Task.{Task, Accepted, column, position, columnCount, sizeOf};
-ghost use Rattle.fields.specs.Judging.{pick};
 ghost use Rattle.blocks.specs.Flat.{blocksIn};
 ghost use Rattle.settling.specs.Coded.{codedOver};
 ghost use Rattle.cut_sheets.specs.CutPart.{cutsNamed, cutOn, countOf, judgeCuts};
@@ -21,6 +20,8 @@ use masks::fill_goals;
 use masks::fill_lands;
 use masks::fill_needs;
 use settling::fill_distances;
+use task::BlockSets;
+use task::Distances;
 use task::Model;
 use task::Position;
 use task::State;
@@ -35,7 +36,7 @@ pub enum Asked {
 // 11 where the bytes are no states of the columns, else 0.
 pub fn judge_states(sizes: &[u8; Model::COLUMNS], columns: usize, states: &[u8]) -> u8
     requires { ⌜ (1 ≤ columns) × (columns ≤ limits .columns) ⌝ }
-    ensures { λ r. ⌜ ((t : Task) → columnCount t ≡ columns → ((j : ℕ) → j < columns → sizeOf t (column j) ≡ getD (now (sizes .entry)) j 0) → r ≡ pick (badStates t (now (states .entry))) 11 0) ⌝ }
+    ensures { λ r. ⌜ ((t : Task) → columnCount t ≡ columns → ((j : ℕ) → j < columns → sizeOf t (column j) ≡ getD (now (sizes .entry)) j 0) → r ≡ cond (badStates t (now (states .entry))) 11 0) ⌝ }
 {
     if states.len() % columns != 0 {
         return 11;
@@ -69,7 +70,7 @@ fn read_state(states: &[u8], columns: usize, k: usize) -> State
 }
 
 // The cost from a state's block on, from a table of distances.
-fn find_cost(count: usize, cuts: &[u32], dist: &[u64; Model::BLOCKS], state: State) -> u32
+fn find_cost(count: usize, cuts: &[u32], dist: &Distances, state: State) -> u32
     requires { ⌜ (count < limits .blocks) × (count * 3 ≤ length (now cuts)) × ((i : ℕ) → i < count → (getD (now cuts) (i * 3 + 1) 0 < limits .columns) × (getD state (getD (now cuts) (i * 3 + 1) 0) (position 0) .0 < limits .positions)) × ((a : ℕ) → a ≤ count → getD (now dist) a 0 / 65536 ≤ limits .«no_way») ⌝ }
     ensures { λ r. ⌜ r ≡ costFound (now (dist .entry)) (now (cuts .entry)) count state ⌝ }
 {
@@ -82,7 +83,7 @@ pub fn fill_estimates(
     columns: usize,
     count: usize,
     cuts: &[u32],
-    dist: &[u64; Model::BLOCKS],
+    dist: &Distances,
     states: &[u8],
     estimates: &mut [u32],
 )
@@ -99,12 +100,7 @@ pub fn fill_estimates(
 }
 
 // The distances of the blocks in an array, by the masks of the model.
-fn measure(
-    model: Model,
-    count: usize,
-    sets: &[u32; Model::BLOCKS * Model::COLUMNS],
-    dist: &mut [u64; Model::BLOCKS],
-)
+fn measure(model: Model, count: usize, sets: &BlockSets, dist: &mut Distances)
     requires { ⌜ Accepted (taskOf model) × (count ≤ limits .blocks) × (length (now dist) ≡ limits .blocks) ⌝ }
     ensures { λ _. ⌜ now (dist .exit) ≡ codedOver (taskOf model) (blocksIn (model .columns) count (now (sets .entry))) count (now (dist .entry)) ⌝ }
 {
@@ -131,13 +127,7 @@ fn measure(
 }
 
 // The estimates of states, after the cuts of a part whose blocks stand in the array.
-fn answer(
-    model: Model,
-    part: &[u8],
-    sets: &[u32; Model::BLOCKS * Model::COLUMNS],
-    states: &[u8],
-    estimates: &mut [u32],
-)
+fn answer(model: Model, part: &[u8], sets: &BlockSets, states: &[u8], estimates: &mut [u32])
     requires { ⌜ Accepted (taskOf model) × (judgeCuts (taskOf model) (now part) ≡ 0) × Made (taskOf model) (cutOn (now part)) (model .columns) (countOf (now part)) (now sets) × (badStates (taskOf model) (now states) ≡ false) × (statesIn (taskOf model) (now states) ≤ length (now estimates)) ⌝ }
     ensures { λ _. ⌜ now (estimates .exit) ≡ over (estimatesOf (taskOf model) (cutsNamed (cutOn (now (part .entry))) (countOf (now (part .entry)))) (now (states .entry))) (now (estimates .entry)) ⌝ }
 {

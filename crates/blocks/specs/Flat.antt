@@ -1,6 +1,6 @@
 -- The blocks and the cuts as code has them: flat arrays of numbers. Block a, column j stands at place a * 16 + j.
 use mathlib.Core.Bool.{Bool, _&&_, cond}
-use mathlib.Core.List.{List}
+use mathlib.Core.List.{List, [], _∷_}
 use Prim.Native.Nat.{ℕ, zero, suc, _+_, _*_}
 use lib.Dec.{eqb}
 use lib.ListN.{getD, set}
@@ -41,7 +41,11 @@ cutIn columns count c sets =
 abbrev pub cut : ℕ → ℕ → ℕ → Cut
 cut a j w = record { block = block a; column = column j; wanted = w }
 
--- cut i of a list with three numbers for each: block, column, wanted
+-- a cut as three numbers: block, column, wanted
+unfoldable pub cutPlace : Cut → List ℕ
+cutPlace c = c .block .0 ∷ c .column .0 ∷ c .wanted ∷ []
+
+-- cut i of a list with three numbers for each
 unfoldable pub cutAt : List ℕ → ℕ → Cut
 cutAt l i = cut (getD l (i * 3) 0) (getD l (i * 3 + 1) 0) (getD l (i * 3 + 2) 0)
 

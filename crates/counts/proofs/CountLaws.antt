@@ -19,7 +19,8 @@ use Rattle.run.specs.Run as run
 use Rattle.run.specs.Run.{plan, noPlan, «open», blockCount, rowsOf}
 use Rattle.run.proofs.RunLaws.{run-right}
 use Rattle.run.proofs.LengthLaws.{plan-short}
-use Rattle.refining.specs.Listing.{listed, cutPlace, rowPlace}
+use Rattle.blocks.specs.Flat.{cutPlace}
+use Rattle.run.specs.Listing.{listed, rowPlace}
 use Rattle.refining.proofs.CutListLaws.{listed-length}
 use Rattle.running.specs.declared.Answer.{Answer}
 use Rattle.running.specs.declared.Answer.the-variants.{Refused}

@@ -1,8 +1,8 @@
 -- 01, "A run": how many values an answer's cuts and rows take in the lists, three for each place.
 use Prim.Native.Nat.{ℕ, _-_, _*_, _≤_}
+use mathlib.Core.Bool.{cond}
 use lib.Dec.{ltb}
 use Rattle.task.specs.Sizes.{limits}
-use Rattle.fields.specs.Judging.{pick}
 use Rattle.running.specs.declared.Answer.{Answer}
 use Rattle.running.specs.declared.Answer.the-variants.{Plan, NoPlan, Open, Refused}
 
@@ -32,4 +32,4 @@ Counted (Open estimate blocks) = (1 ≤ blocks) × (blocks ≤ limits .blocks)
 
 -- how many of the places lent can matter where no more than n can be used
 unfoldable pub usable : ℕ → ℕ → ℕ
-usable n places = pick (ltb n places) n places
+usable n places = cond (ltb n places) n places

@@ -3,11 +3,12 @@
 use Prim.Native.Nat.{ℕ, _+_, _*_}
 use native.Mathlib.Omega.{arith}
 use mathlib.Core.Path.{_≡_, refl, ap}
+use mathlib.Core.Bool.{cond}
 use mathlib.Core.List.{List, [], _∷_, _++_}
 use lib.Dec.{eqb}
 use lib.ListN.{length, take}
 use Rattle.task.specs.Loops.{over}
-use Rattle.fields.specs.Judging.{Entry, checksOf, pick, refusal}
+use Rattle.fields.specs.Judging.{Entry, checksOf, refusal}
 use Rattle.fields.specs.Packing.{sheetOf}
 use Rattle.sheets.specs.ModelSheet.{sheetChecks}
 use Rattle.sheets.specs.Holding.{taskOn}
@@ -43,4 +44,4 @@ module _ (model : List ℕ) (count : ℕ) (cuts cuts′ : List ℕ) (same : take
   first-places sheet =
       ap (λ (es : List Entry).
       let r = refusal ((sheetChecks model ++ checksOf es) ++ (tooFew (length model + cutBytes count) sheet ∷ [])) in
-      pick (eqb r 0) (outcome (Sheet (length model + cutBytes count)) (over (model ++ sheetOf es) sheet)) (outcome (Refused r) sheet)) same-entries
+      cond (eqb r 0) (outcome (Sheet (length model + cutBytes count)) (over (model ++ sheetOf es) sheet)) (outcome (Refused r) sheet)) same-entries

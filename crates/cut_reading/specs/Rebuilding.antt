@@ -2,10 +2,9 @@
 use Prim.Native.Nat.{ℕ}
 use mathlib.Core.Path.{_≡_}
 use mathlib.Core.List.{List}
-use lib.Dec.{eqb}
 use Rattle.task.specs.Loops.{over}
 use Rattle.task.specs.Task.{columnCount}
-use Rattle.fields.specs.Judging.{pick, refusal}
+use Rattle.fields.specs.Judging.{refusal, unlessRefused}
 use Rattle.cut_sheets.specs.CutPart.{countOf, cutOn}
 use Rattle.cut_sheets.specs.CutSheet.{tailOf, cutSheetChecks, cutList, rebuildChecks}
 use Rattle.cut_sheets.specs.Judged.{Made}
@@ -33,8 +32,7 @@ outcome a cuts = record { answer = a; cuts = cuts }
 -- a refusal returns only its number and changes nothing lent; else the list has the cuts, and places past the last one stay
 unfoldable pub rebuilding : List ℕ → List ℕ → List ℕ → Outcome
 rebuilding model s cuts =
-    let n = refusal (rebuildChecks model s cuts) in
-    pick (eqb n 0) (outcome (Cuts (countOf (tailOf s))) (over (cutList s) cuts)) (outcome (Refused n) cuts)
+    unlessRefused (refusal (rebuildChecks model s cuts)) (outcome (Cuts (countOf (tailOf s))) (over (cutList s) cuts)) (λ n. outcome (Refused n) cuts)
 
 -- what `rebuild` promises, whatever is passed: the answer and the list at exit
 abbrev pub Rebuilds : (model s cuts : List ℕ) → CutsRebuilt → (cuts′ : List ℕ) → Type 0

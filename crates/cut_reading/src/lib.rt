@@ -17,6 +17,7 @@ use cutting::every_position;
 use fields::field::field;
 use sheets::judge_part;
 use sheets::judge_sheet;
+use task::BlockSets;
 use task::Model;
 
 // The number of cuts, or a refusal.
@@ -44,7 +45,7 @@ fn at_front(a: &[u8], s: &[u8]) -> bool
 
 // Block 0 with every state of the model on an accepted sheet. The sizes are read where they stand: the model's tables would take stack below all that is
 // judged here.
-fn fill_whole(model: &[u8], columns: usize, sets: &mut [u32; Model::BLOCKS * Model::COLUMNS])
+fn fill_whole(model: &[u8], columns: usize, sets: &mut BlockSets)
     requires { ⌜ (judgeSheet (now model) ≡ 0) × (columns ≡ columnsOf (now model)) × (length (now sets) ≡ limits .blocks * limits .columns) ⌝ }
     ensures { λ _. ⌜ now (sets .exit) ≡ over (whole (taskOn (now (model .entry)))) (now (sets .entry)) ⌝ }
 {
@@ -57,11 +58,7 @@ fn fill_whole(model: &[u8], columns: usize, sets: &mut [u32; Model::BLOCKS * Mod
 }
 
 // The refusal of both sheets: the given model, the inner one, 10, the cut part; 0 for none, and the array then holds the blocks.
-pub fn judge_cut_sheet(
-    model: &[u8],
-    sheet: &[u8],
-    sets: &mut [u32; Model::BLOCKS * Model::COLUMNS],
-) -> u8
+pub fn judge_cut_sheet(model: &[u8], sheet: &[u8], sets: &mut BlockSets) -> u8
     requires { ⌜ length (now sets) ≡ limits .blocks * limits .columns ⌝ }
     ensures { λ r. ⌜ SheetJudged (now (model .entry)) (now (sheet .entry)) r (now (sets .exit)) ⌝ }
 {

@@ -6,12 +6,13 @@ use lib.ListN.{length}
 use lib.Dec.{ltb}
 use Rattle.task.specs.Sizes.{limits}
 use Rattle.task.specs.Loops.{tab}
-use Rattle.task.specs.Task.{Task, column, block}
+use Rattle.task.specs.Task.{Task}
 use Rattle.fields.specs.Bits.{fieldAt}
 use Rattle.fields.specs.Judging.{Field, Entry, Check, onSheet, entry, free, outside, check, checksOf, refusal, each}
 use Rattle.fields.specs.Packing.{bytesFor}
 use Rattle.blocks.specs.declared.Cut.{Cut}
 use Rattle.blocks.specs.Blocks.{cutOk, blocksOf}
+use Rattle.blocks.specs.Flat.{cut}
 use Rattle.sheets.specs.ModelSheet.{fillBits, fillPart}
 
 -- the fields of a cut
@@ -29,7 +30,7 @@ pub record CutSource : Type 0 where
 
 -- the cut that three fields name, and the first i cuts
 unfoldable pub cutNamed : CutFields → Cut
-cutNamed f = record { block = block (f .block .value); column = column (f .column .value); wanted = f .wanted .value }
+cutNamed f = cut (f .block .value) (f .column .value) (f .wanted .value)
 
 unfoldable pub cutsNamed : (ℕ → CutFields) → ℕ → List Cut
 cutsNamed c i = tab i (λ k. cutNamed (c k))

@@ -15,6 +15,7 @@ use cutting::make_cut;
 use fields::field::field;
 use fields::field::judge_field;
 use task::Block;
+use task::BlockSets;
 use task::Column;
 use task::Model;
 
@@ -35,7 +36,7 @@ fn read_cut(s: &[u8], i: usize) -> Cut
 }
 
 // Cut i: 1 where its three fields are not there, 9 where the blocks so far do not take it, else 0.
-fn judge_cut(s: &[u8], i: usize, columns: usize, sets: &[u32; Model::BLOCKS * Model::COLUMNS]) -> u8
+fn judge_cut(s: &[u8], i: usize, columns: usize, sets: &BlockSets) -> u8
     requires { ⌜ (i + 1 < limits .blocks) × (columns ≤ limits .columns) ⌝ }
     ensures { λ r. ⌜ CutJudged (cutOn (now (s .entry))) columns i r × ((t : Task) → columnCount t ≡ columns → Made t (cutOn (now (s .entry))) columns i (now (sets .entry)) → r ≡ judged (cutPart t (cutOn (now (s .entry))) i)) ⌝ }
 {
@@ -49,12 +50,7 @@ fn judge_cut(s: &[u8], i: usize, columns: usize, sets: &[u32; Model::BLOCKS * Mo
 }
 
 // The cuts of a part, each judged by the blocks that those before it made, and made in turn. At first the array holds block 0.
-fn judge_cuts(
-    s: &[u8],
-    count: usize,
-    columns: usize,
-    sets: &mut [u32; Model::BLOCKS * Model::COLUMNS],
-) -> u8
+fn judge_cuts(s: &[u8], count: usize, columns: usize, sets: &mut BlockSets) -> u8
     requires { ⌜ (count < limits .blocks) × (columns ≤ limits .columns) × (length (now sets) ≡ limits .blocks * limits .columns) ⌝ }
     ensures { λ r. ⌜ ((t : Task) → columnCount t ≡ columns → Made t (cutOn (now (s .entry))) columns 0 (now (sets .entry)) → CutsJudged t (cutOn (now (s .entry))) columns count r (now (sets .exit))) ⌝ }
 {
@@ -71,11 +67,7 @@ fn judge_cuts(
 }
 
 // The refusal of a cut part; 0 for none, and the array then holds the blocks of its cuts.
-pub fn judge_cut_part(
-    s: &[u8],
-    columns: usize,
-    sets: &mut [u32; Model::BLOCKS * Model::COLUMNS],
-) -> u8
+pub fn judge_cut_part(s: &[u8], columns: usize, sets: &mut BlockSets) -> u8
     requires { ⌜ (columns ≤ limits .columns) × (length (now sets) ≡ limits .blocks * limits .columns) ⌝ }
     ensures { λ r. ⌜ ((t : Task) → columnCount t ≡ columns → Made t (cutOn (now (s .entry))) columns 0 (now (sets .entry)) → PartJudged t (now (s .entry)) columns r (now (sets .exit))) ⌝ }
 {
@@ -119,12 +111,7 @@ fn lent_cut(cuts: &[u32], i: usize) -> Cut
 }
 
 // Cut i of a lent list, as judge_cut judges one of a part. A number that has no room in its field names nothing that is there.
-fn judge_lent_cut(
-    cuts: &[u32],
-    i: usize,
-    columns: usize,
-    sets: &[u32; Model::BLOCKS * Model::COLUMNS],
-) -> u8
+fn judge_lent_cut(cuts: &[u32], i: usize, columns: usize, sets: &BlockSets) -> u8
     requires { ⌜ (i + 1 < limits .blocks) × (columns ≤ limits .columns) ⌝ }
     ensures { λ r. ⌜ LentJudged (now (cuts .entry)) columns i r × ((t : Task) → columnCount t ≡ columns → Made t (cutLent (now (cuts .entry))) columns i (now (sets .entry)) → r ≡ judged (cutPart t (cutLent (now (cuts .entry))) i)) ⌝ }
 {
@@ -144,12 +131,7 @@ fn judge_lent_cut(
 }
 
 // The cuts of a lent list, as judge_cuts judges those of a part.
-pub fn judge_lent_cuts(
-    cuts: &[u32],
-    count: usize,
-    columns: usize,
-    sets: &mut [u32; Model::BLOCKS * Model::COLUMNS],
-) -> u8
+pub fn judge_lent_cuts(cuts: &[u32], count: usize, columns: usize, sets: &mut BlockSets) -> u8
     requires { ⌜ (count < limits .blocks) × (columns ≤ limits .columns) × (length (now sets) ≡ limits .blocks * limits .columns) ⌝ }
     ensures { λ r. ⌜ ((t : Task) → columnCount t ≡ columns → Made t (cutLent (now (cuts .entry))) columns 0 (now (sets .entry)) → CutsJudged t (cutLent (now (cuts .entry))) columns count r (now (sets .exit))) ⌝ }
 {

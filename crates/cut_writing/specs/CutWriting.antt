@@ -2,10 +2,9 @@
 use Prim.Native.Nat.{ℕ, _+_}
 use mathlib.Core.Path.{_≡_}
 use mathlib.Core.List.{List}
-use lib.Dec.{eqb}
 use lib.ListN.{length}
 use Rattle.task.specs.Loops.{over}
-use Rattle.fields.specs.Judging.{pick, refusal}
+use Rattle.fields.specs.Judging.{refusal, unlessRefused}
 use Rattle.cut_sheets.specs.CutPart.{cutBytes}
 use Rattle.cut_sheets.specs.CutSheet.{cutSheetOf, writeCutsChecks}
 use Rattle.cut_writing.specs.declared.CutsWritten.{CutsWritten}
@@ -26,8 +25,9 @@ outcome a sheet = record { answer = a; sheet = sheet }
 -- a refusal returns only its number and changes nothing lent; else the bytes are the sheet, and those past it stay
 unfoldable pub writingCuts : List ℕ → ℕ → List ℕ → List ℕ → Outcome
 writingCuts model count cuts sheet =
-    let n = refusal (writeCutsChecks model count cuts sheet) in
-    pick (eqb n 0) (outcome (Sheet (length model + cutBytes count)) (over (cutSheetOf model count cuts) sheet)) (outcome (Refused n) sheet)
+    unlessRefused (refusal (writeCutsChecks model count cuts sheet))
+    (outcome (Sheet (length model + cutBytes count)) (over (cutSheetOf model count cuts) sheet))
+    (λ n. outcome (Refused n) sheet)
 
 -- what `write_cuts` promises, whatever is passed: the answer and the bytes at exit
 abbrev pub WritesCuts : (model : List ℕ) (count : ℕ) (cuts sheet : List ℕ) → CutsWritten → (sheet′ : List ℕ) → Type 0

@@ -13,6 +13,7 @@ ghost use Rattle.blocks.specs.Flat.{past, laid, cutIn, blocksIn, cut, cutsIn, g
 ghost use Rattle.blocks.specs.Masks.{parts};
 use blocks::Cut;
 use task::Block;
+use task::BlockSets;
 use task::Model;
 use task::State;
 
@@ -26,7 +27,7 @@ pub fn every_position(size: u8) -> u32
 }
 
 // Block 0 with every state.
-pub fn fill_first(model: Model, sets: &mut [u32; Model::BLOCKS * Model::COLUMNS])
+pub fn fill_first(model: Model, sets: &mut BlockSets)
     requires { ⌜ Accepted (taskOf model) × (length (now sets) ≡ limits .blocks * limits .columns) ⌝ }
     ensures { λ _. ⌜ now (sets .exit) ≡ over (whole (taskOf model)) (now (sets .entry)) ⌝ }
 {
@@ -39,12 +40,7 @@ pub fn fill_first(model: Model, sets: &mut [u32; Model::BLOCKS * Model::COLUMNS]
 }
 
 // Copies the row of a block that begins at one place to another.
-fn copy_row(
-    columns: usize,
-    here: usize,
-    there: usize,
-    sets: &mut [u32; Model::BLOCKS * Model::COLUMNS],
-)
+fn copy_row(columns: usize, here: usize, there: usize, sets: &mut BlockSets)
     requires { ⌜ (length (now sets) ≡ limits .blocks * limits .columns) × (here + columns ≤ there) × (there + columns ≤ limits .blocks * limits .columns) ⌝ }
     ensures { λ _. ⌜ now (sets .exit) ≡ laid columns (past (now (sets .entry)) here) there (now (sets .entry)) ⌝ }
 {
@@ -56,12 +52,7 @@ fn copy_row(
 }
 
 // Makes a cut: the wanted part goes under the next number, the rest stays under the old.
-pub fn make_cut(
-    columns: usize,
-    count: usize,
-    cut: Cut,
-    sets: &mut [u32; Model::BLOCKS * Model::COLUMNS],
-)
+pub fn make_cut(columns: usize, count: usize, cut: Cut, sets: &mut BlockSets)
     requires { ⌜ (columns ≤ limits .columns) × (count < limits .blocks) × (cut .block .0 < count) × (cut .column .0 < columns) × (length (now sets) ≡ limits .blocks * limits .columns) ⌝ }
     ensures { λ _. ⌜ now (sets .exit) ≡ cutIn columns count cut (now (sets .entry)) ⌝ }
 {
@@ -89,12 +80,7 @@ fn may_part(wanted: u32, old: u32) -> bool
 }
 
 // Whether a cut may be made: refusal 9's test of one cut.
-pub fn cut_ok(
-    columns: usize,
-    count: usize,
-    cut: Cut,
-    sets: &[u32; Model::BLOCKS * Model::COLUMNS],
-) -> bool
+pub fn cut_ok(columns: usize, count: usize, cut: Cut, sets: &BlockSets) -> bool
     requires { ⌜ (columns ≤ limits .columns) × (count ≤ limits .blocks) ⌝ }
     ensures { λ r. ⌜ ((t : Task) → columnCount t ≡ columns → r ≡ cutOk t (blocksIn columns count (now (sets .entry))) cut) ⌝ }
 {

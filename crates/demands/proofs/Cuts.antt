@@ -16,7 +16,8 @@ use Rattle.blocks.specs.declared.Cut.{Cut}
 use Rattle.blocks.specs.Blocks.{accepted}
 use Rattle.distances.specs.Distances.{NoMore, estimate}
 use Rattle.sheets.specs.Holding.{taskOn}
-use Rattle.refining.specs.Listing.{listed, cutPlace}
+use Rattle.blocks.specs.Flat.{cutPlace}
+use Rattle.run.specs.Listing.{listed}
 use Rattle.running.specs.declared.Answer.{Answer}
 use Rattle.running.specs.declared.Answer.the-variants.{Plan, NoPlan, Open, Refused}
 use Rattle.running.specs.Running.{number, Runs}

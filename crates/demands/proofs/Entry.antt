@@ -25,7 +25,8 @@ use Rattle.run.specs.Run as run
 use Rattle.run.specs.Run.{plan, noPlan, «open», rows, rowsOf}
 use Rattle.run.proofs.RunLaws.{Cheapest, NoPlan, Right, run-right}
 use Rattle.run.proofs.LengthLaws.{plan-short}
-use Rattle.refining.specs.Listing.{listed, cutPlace, rowPlace}
+use Rattle.blocks.specs.Flat.{cutPlace}
+use Rattle.run.specs.Listing.{listed, rowPlace}
 use Rattle.running.specs.Running.{told}
 use Rattle.values.specs.Values.{bytesOf}
 use Rattle.historian.specs.Entries.{answerNumber, entryChecks, RunOutcome, madeBytes, EntryRuns}

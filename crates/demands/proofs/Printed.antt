@@ -9,7 +9,7 @@ use native.Mathlib.Nat.{zero-add}
 use native.Mathlib.Omega.{arith}
 use mathlib.Core.Path.{_≡_, refl, sym, ap, _∙_, subst}
 use mathlib.Core.Logic.{⊎-elim}
-use mathlib.Core.Bool.{Bool, true, false}
+use mathlib.Core.Bool.{Bool, true, false, cond}
 use mathlib.Core.List.{List, [], _∷_, _++_}
 use lib.Dec.{eqb, ltb}
 use lib.ListN.{length, getD, take, drop}
@@ -20,7 +20,7 @@ use Rattle.task.specs.Sizes.{limits}
 use Rattle.task.specs.Task.{Task, Accepted}
 use Rattle.task.proofs.LoopLaws.{true-or-false}
 use Rattle.fields.specs.Bits.{fieldAt}
-use Rattle.fields.specs.Judging.{Check, check, pick, refusal}
+use Rattle.fields.specs.Judging.{Check, check, refusal}
 use Rattle.fields.proofs.ExactLaws.{has, Numbers, numbers-append, gives, Judged, judges}
 use Rattle.fields.proofs.JudgingLaws.{applies, passes, passed}
 use Rattle.fields.proofs.PlaceLaws.{puts-over}
@@ -66,7 +66,7 @@ textOf o = take (o .count) (o .buffer)
 
 -- the refusal number that a text tells: of "refused n" the digit, which is its byte 8; 0 where it does not begin with an r
 unfoldable pub refusalOn : List ℕ → ℕ
-refusalOn text = pick (eqb (getD text 0 0) 114) (getD text 8 0 - 48) 0
+refusalOn text = cond (eqb (getD text 0 0) 114) (getD text 8 0 - 48) 0
 
 text-shown : (lines out : List ℕ) → textOf (showing lines out) ≡ lines
 unfolding over
@@ -89,14 +89,14 @@ module _ (file : List ℕ) where
   runLines = madeLines (taskOn (sheetIn file)) (run.run (taskOn (sheetIn file)) (roomIn file))
 
   abbrev refusedOr : ℕ → List ℕ
-  refusedOr n = pick (eqb n 0) runLines (firstLine (Refused n))
+  refusedOr n = cond (eqb n 0) runLines (firstLine (Refused n))
 
   pub printed-is : printed file ≡ refusedOr R
   unfolding printed ranLines fileChecks
   printed-is = ⊎-elim short long (true-or-false (ltb (length file) 2))
     where
       by-length : Bool → List ℕ
-      by-length b = pick b (firstLine (Refused 1)) (ranLines (sheetIn file) (roomIn file))
+      by-length b = cond b (firstLine (Refused 1)) (ranLines (sheetIn file) (roomIn file))
 
       short : ltb (length file) 2 ≡ true → printed file ≡ refusedOr R
       short h = ap by-length h ∙ ap refusedOr (applies 1 (ltb (length file) 2) _ h (λ z. omega arith))
@@ -120,7 +120,7 @@ module _ (file : List ℕ) where
     seen : (lines : List ℕ) → refusalOn (textOf (showing lines out)) ≡ refusalOn lines
     seen lines = ap refusalOn (text-shown lines out)
 
-    picked : (b : Bool) (x y : List ℕ) → pick b (showing x out) (showing y out) ≡ showing (pick b x y) out
+    picked : (b : Bool) (x y : List ℕ) → cond b (showing x out) (showing y out) ≡ showing (cond b x y) out
     picked true x y = refl
     picked false x y = refl
 

@@ -9,7 +9,7 @@
 use Prim.Native.Nat.{ℕ, _+_, _*_, _/_, _%_, _^_, _≤_, _<_}
 use native.Mathlib.Omega.{arith}
 use mathlib.Core.Path.{_≡_, refl, sym, ap, _∙_, subst}
-use mathlib.Core.Bool.{Bool, true, false}
+use mathlib.Core.Bool.{Bool, true, false, cond}
 use mathlib.Core.List.{List}
 use lib.Dec.{eqb, ltb}
 use lib.IntN.{ℤ}
@@ -18,7 +18,7 @@ use borrow.Author.Tests.{eqb-true, eq-eqb, ne-eqb, lt-ltb, le-ltb}
 use Rattle.task.specs.Loops.{over}
 use Rattle.task.specs.Sizes.{limits}
 use Rattle.task.specs.Task.{Task}
-use Rattle.fields.specs.Judging.{pick, refusal}
+use Rattle.fields.specs.Judging.{refusal}
 use Rattle.fields.specs.Packing.{sheetOf}
 use Rattle.fields.proofs.ExactLaws.{has, Judged, judges}
 use Rattle.sheets.specs.ModelSheet.{Source, columnsIn, stepsIn, columnsOf, stepsOf, ofSheet, entries, modelBytes}
@@ -56,7 +56,8 @@ use Rattle.replay_laws.proofs.Refusals as replays
 use Rattle.run.specs.declared.Row.{Row}
 use Rattle.run.specs.Run as run
 use Rattle.run.specs.Run.{plan, noPlan, «open»}
-use Rattle.refining.specs.Listing.{listed, cutPlace}
+use Rattle.blocks.specs.Flat.{cutPlace}
+use Rattle.run.specs.Listing.{listed}
 use Rattle.running.specs.declared.Answer.{Answer}
 use Rattle.running.specs.declared.Answer.the-variants as answer
 use Rattle.running.specs.Running as running
@@ -157,7 +158,7 @@ module _ (s : List ℕ) (room : ℕ) (cuts : List ℕ) (rs : List Row) where
 
 -- ---- elhavir_run: an answer of kind 0, below 2^56, is a refusal's number; one of another kind refuses nothing
 abbrev pub refusalIn : ℕ → ℕ
-refusalIn r = pick (ltb r (2 ^ 56)) r 0
+refusalIn r = cond (ltb r (2 ^ 56)) r 0
 
 large : (t : Task) (b : ℕ) (a : run.Answer) → 2 ^ 56 ≤ answerNumber (told t b a)
 unfolding answerNumber told
@@ -182,8 +183,8 @@ module _ (s : List ℕ) (room : ℕ) (cuts rs : List ℕ) where
   entry-runner =
       let o = run.run (taskOn s) room in
       let v = answerNumber (told (taskOn s) (run.blockCount o) (o .answer)) in
-      judges _ _ ran.numbers refl (entryChecks s room cuts rs) (entry-numbers s room cuts rs) _ (ap (λ (b : Bool). pick b v 0) (le-ltb v (2 ^ 56) (large (taskOn s) (run.blockCount o) (o .answer))))
-      (ap (λ (b : Bool). pick b R 0) (lt-ltb R (2 ^ 56) (omega (arith, entry-low s room cuts rs))))
+      judges _ _ ran.numbers refl (entryChecks s room cuts rs) (entry-numbers s room cuts rs) _ (ap (λ (b : Bool). cond b v 0) (le-ltb v (2 ^ 56) (large (taskOn s) (run.blockCount o) (o .answer))))
+      (ap (λ (b : Bool). cond b R 0) (lt-ltb R (2 ^ 56) (omega (arith, entry-low s room cuts rs))))
 
   module _ {r : ℕ} {c l : List ℕ} (done : EntryRuns s room cuts rs r c l) where
     pub elhavir-run-judged : Judged (λ (o : RunOutcome). refusalIn (o .answer)) (λ n. runOutcome n cuts rs) (entryChecks s room cuts rs) (madeBytes (taskOn s) (run.run (taskOn s) room) cuts rs) (runOutcome r c l)
@@ -211,13 +212,13 @@ module _ (model s states est : List ℕ) where
 -- ---- elhavir_replay: an answer of kind 0, below 2^56, has a refusal's number as its value, and 14 its row in the field of the steps; one of another kind
 -- refuses nothing
 abbrev pub replayRefusal : ℕ → ℕ
-replayRefusal r = pick (ltb r (2 ^ 56)) (r % 2 ^ 32) 0
+replayRefusal r = cond (ltb r (2 ^ 56)) (r % 2 ^ 32) 0
 
 pub refusal-low : (r : ℕ) → r < 2 ^ 56 → replayRefusal r ≡ r % 2 ^ 32
-refusal-low r h = ap (λ (b : Bool). pick b (r % 2 ^ 32) 0) (lt-ltb r (2 ^ 56) h)
+refusal-low r h = ap (λ (b : Bool). cond b (r % 2 ^ 32) 0) (lt-ltb r (2 ^ 56) h)
 
 pub refusal-none : (r : ℕ) → 2 ^ 56 ≤ r → replayRefusal r ≡ 0
-refusal-none r h = ap (λ (b : Bool). pick b (r % 2 ^ 32) 0) (le-ltb r (2 ^ 56) h)
+refusal-none r h = ap (λ (b : Bool). cond b (r % 2 ^ 32) 0) (le-ltb r (2 ^ 56) h)
 
 module _ (model s log rs : List ℕ) where
   abbrev steps : List ℕ
@@ -241,7 +242,7 @@ module _ (model s log rs : List ℕ) where
   unfolding replay.refused replayNumber
   told-back = split (eqb Q 14) refl
     where
-      split : (b : Bool) → eqb Q 14 ≡ b → replayRefusal (replayNumber (pick b (replayed.Stopped (badRow (taskOn model) steps)) (replayed.Refused Q))) ≡ Q
+      split : (b : Bool) → eqb Q 14 ≡ b → replayRefusal (replayNumber (cond b (replayed.Stopped (badRow (taskOn model) steps)) (replayed.Refused Q))) ≡ Q
       split true h =
           let e : Q ≡ 14 = eqb-true Q 14 h in
           refusal-low (badRow (taskOn model) steps * 2 ^ 32 + 14) (omega (arith, row-few e)) ∙ omega (arith, e)

@@ -6,7 +6,7 @@ use native.Mathlib.Omega.{arith}
 use native.Mathlib.Decide.{ℕ-discrete}
 use mathlib.Core.Path.{_≡_, refl, sym, ap, _∙_, subst⁻¹}
 use mathlib.Core.Logic.{_⊎_, inl, inr}
-use mathlib.Core.Bool.{Bool, false}
+use mathlib.Core.Bool.{Bool, false, cond}
 use mathlib.Core.List.{List, map}
 use lib.Dec.{ltb}
 use lib.IntN.{ℤ, pos, negsuc, natAbs, _-ℤ_}
@@ -15,7 +15,7 @@ use borrow.Author.Tests.{lt-ltb, le-ltb, ne-eqb}
 use Rattle.task.specs.Loops.{over}
 use Rattle.task.specs.Sizes.{limits}
 use Rattle.task.specs.Task.{Task, stepCount, canTake, IsPlan}
-use Rattle.fields.specs.Judging.{pick, refusal}
+use Rattle.fields.specs.Judging.{refusal}
 use Rattle.sheets.specs.Holding.{taskOn}
 use Rattle.cut_sheets.specs.CutSheet.{cutsOf}
 use Rattle.values.specs.Values.{valueOn, valuesOn, twos, signedBytes}
@@ -87,17 +87,17 @@ module _ (model s log : List ℕ) (rows : List ℤ) {n : ℕ} {l : List ℤ} (do
 -- ---- signed values, as a C program takes them from the bytes: below 2^31 the value itself, else less 2^32
 
 abbrev pub signed : ℕ → ℤ
-signed v = pick (ltb v (2 ^ 31)) (pos v) (pos v -ℤ pos (2 ^ 32))
+signed v = cond (ltb v (2 ^ 31)) (pos v) (pos v -ℤ pos (2 ^ 32))
 
 abbrev pub signedOn : List ℕ → ℕ → ℤ
 signedOn bytes k = signed (valueOn bytes k)
 
 module _ (high low : ℤ) where
-  picked : (v : ℕ) → v < 2 ^ 31 → pick (ltb v (2 ^ 31)) high low ≡ high
-  picked v h = ap (λ (b : Bool). pick b high low) (lt-ltb v (2 ^ 31) h)
+  picked : (v : ℕ) → v < 2 ^ 31 → cond (ltb v (2 ^ 31)) high low ≡ high
+  picked v h = ap (λ (b : Bool). cond b high low) (lt-ltb v (2 ^ 31) h)
 
-  passed-over : (v : ℕ) → 2 ^ 31 ≤ v → pick (ltb v (2 ^ 31)) high low ≡ low
-  passed-over v h = ap (λ (b : Bool). pick b high low) (le-ltb v (2 ^ 31) h)
+  passed-over : (v : ℕ) → 2 ^ 31 ≤ v → cond (ltb v (2 ^ 31)) high low ≡ low
+  passed-over v h = ap (λ (b : Bool). cond b high low) (le-ltb v (2 ^ 31) h)
 
 -- a value's two's complement gives it back
 pub signed-back : (z : ℤ) → natAbs z < 2 ^ 31 → signed (twos z) ≡ z
@@ -137,7 +137,7 @@ module _ (model s log rows : List ℕ) {r : ℕ} {l : List ℕ} (done : EntryRep
 
   other-number : (Q ≡ 0 → ⊥) → (Q ≡ 14 → ⊥) → r ≡ Q
   unfolding refused replayNumber
-  other-number z e = refused-number z ∙ ap (λ (b : Bool). replayNumber (pick b (Stopped (badRow t taken-steps)) (Refused Q))) (ne-eqb Q 14 e)
+  other-number z e = refused-number z ∙ ap (λ (b : Bool). replayNumber (cond b (Stopped (badRow t taken-steps)) (Refused Q))) (ne-eqb Q 14 e)
 
   checked : Q ≡ 0 → Passed model s taken-steps (ltb (length rows / 12) (length taken-steps))
   unfolding replayEntryChecks fewPlaces

@@ -17,7 +17,8 @@ use Rattle.run.specs.declared.Row.{Row}
 use Rattle.run.specs.Run as run
 use Rattle.run.specs.Run.{plan, noPlan, «open», rows, rowsOf, blockCount}
 use Rattle.run.proofs.RunLaws.{Cheapest, NoPlan as NonePlans, Right, run-right}
-use Rattle.refining.specs.Listing.{listed, cutPlace}
+use Rattle.blocks.specs.Flat.{cutPlace}
+use Rattle.run.specs.Listing.{listed}
 use Rattle.running.specs.declared.Answer.{Answer}
 use Rattle.running.specs.declared.Answer.the-variants.{Plan, NoPlan, Open, Refused}
 use Rattle.running.specs.Running as running

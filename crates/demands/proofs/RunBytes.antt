@@ -29,7 +29,8 @@ use Rattle.blocks.proofs.CutLaws.{whole-parts}
 use Rattle.sheets.specs.Holding.{taskOn}
 use Rattle.run.specs.declared.Row.{Row}
 use Rattle.run.specs.Run.{rows}
-use Rattle.refining.specs.Listing.{listed, cutPlace, rowPlace}
+use Rattle.blocks.specs.Flat.{cutPlace}
+use Rattle.run.specs.Listing.{listed, rowPlace}
 use Rattle.refining.proofs.CutListLaws.{listed-three}
 use Rattle.running.proofs.RowLaws.{row-each}
 use Rattle.values.specs.Values.{bytesOf, valueOn}

@@ -11,7 +11,8 @@ use Rattle.fields.specs.Judging.{refusal}
 use Rattle.fields.proofs.PlaceLaws.{each-length}
 use Rattle.sheets.specs.Holding.{taskOn}
 use Rattle.run.specs.Run.{rows}
-use Rattle.refining.specs.Listing.{listed, cutPlace, rowPlace}
+use Rattle.blocks.specs.Flat.{cutPlace}
+use Rattle.run.specs.Listing.{listed, rowPlace}
 use Rattle.refining.proofs.CutListLaws.{listed-length}
 use Rattle.running.specs.declared.Answer.{Answer}
 use Rattle.running.specs.declared.Answer.the-variants.{Plan, NoPlan, Open, Refused}

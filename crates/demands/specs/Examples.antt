@@ -1,5 +1,6 @@
 -- The examples that 01 marks P, as one statement over one list, and after them models on which a wrong reading of the rules would show. A model is
 -- given as 01 gives it, as columns and steps or as a sheet's bytes, and an answer in 01's values: cost, steps and blocks.
+use mathlib.Core.Bool.{cond}
 use mathlib.Core.Path.{_≡_, refl}
 use mathlib.Core.List.{List, [], _∷_, _++_, map}
 use mathlib.Core.Option.{Option, none, some, Option·map}
@@ -297,7 +298,7 @@ linesOf t cs log = loops.tab (length log) (λ i. record { paid = replay.paid t l
 pub replayed : Shift → Shift
 replayed e =
     let n = replay.badRow (e .model) (e .log) in
-    record { model = e .model; cuts = e .cuts; log = e .log; stopped = n; lines = judging.pick (eqb n 0) (linesOf (e .model) (e .cuts) (e .log)) [] }
+    record { model = e .model; cuts = e .cuts; log = e .log; stopped = n; lines = cond (eqb n 0) (linesOf (e .model) (e .cuts) (e .log)) [] }
 
 -- step 1 leads to a position from which there is no way, and step 2 stays there
 abbrev deadEnd : Task

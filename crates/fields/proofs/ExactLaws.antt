@@ -4,12 +4,12 @@ use native.Mathlib.Nat.{le-of-suc-le-suc, not-suc-le-zero}
 use native.Mathlib.Omega.{arith}
 use mathlib.Core.Path.{_≡_, refl, sym, ap, _∙_}
 use mathlib.Core.Logic.{_↔_}
-use mathlib.Core.Bool.{Bool, true, false, _&&_, _||_, and-eq-true-iff, false≢true}
+use mathlib.Core.Bool.{Bool, true, false, _&&_, _||_, and-eq-true-iff, false≢true, cond}
 use mathlib.Core.List.{List, [], _∷_, _++_}
 use lib.Dec.{eqb, ltb}
 use lib.ListN.{length, getD}
 use borrow.Author.Tests.{eqb-true, eq-eqb, ltb-true}
-use Rattle.fields.specs.Judging.{Entry, Check, check, checksOf, _then_, pick, refusal, each}
+use Rattle.fields.specs.Judging.{Entry, Check, check, checksOf, _then_, refusal, each}
 use Rattle.fields.proofs.JudgingLaws.{stop, go, checks-append, no-checks, passes, passed, refused-is}
 
 abbrev pub noCheck : Check
@@ -56,7 +56,7 @@ module _ (p : ℕ → Bool) where
   fields-each f zero h = refl
   fields-each f (suc n) h = fields-append (each n f) (f n) (fields-each f n h) (h n)
 
-  then-passes : (b : Bool) (n r : ℕ) → p n ≡ true → p r ≡ true → p (pick b n 0 then r) ≡ true
+  then-passes : (b : Bool) (n r : ℕ) → p n ≡ true → p r ≡ true → p (cond b n 0 then r) ≡ true
   unfolding _then_
   then-passes true zero r f g = g
   then-passes true (suc n) r f g = f
@@ -156,7 +156,7 @@ pub record Judged {O : Type 0} (number : O → ℕ) (refused : ℕ → O) (cs : 
   pub leaves : (n : ℕ) → (n ≡ 0 → ⊥) → number o ≡ n → o ≡ refused n
 
 pub judges : {O : Type 0} (number : O → ℕ) (refused : ℕ → O) (ns : List ℕ) → every (ltb 0) ns ≡ true → (cs : List Check) → Numbers (has ns) cs → (made : O) → number made ≡ 0 → number (refused (refusal cs)) ≡ refusal cs
-    → Judged number refused cs made (pick (eqb (refusal cs) 0) made (refused (refusal cs)))
+    → Judged number refused cs made (cond (eqb (refusal cs) 0) made (refused (refusal cs)))
 judges number refused ns some cs among made none same =
     record {
       told = said (eqb R 0) refl;
@@ -172,9 +172,9 @@ judges number refused ns some cs among made none same =
     R : ℕ
     R = refusal cs
 
-    said : (b : Bool) → eqb R 0 ≡ b → number (pick b made (refused R)) ≡ R
+    said : (b : Bool) → eqb R 0 ≡ b → number (cond b made (refused R)) ≡ R
     said true h = none ∙ sym (eqb-true R 0 h)
     said false h = same
 
-    goes : R ≡ 0 → pick (eqb R 0) made (refused R) ≡ made
-    goes z = ap (λ (b : Bool). pick b made (refused R)) (eq-eqb R 0 z)
+    goes : R ≡ 0 → cond (eqb R 0) made (refused R) ≡ made
+    goes z = ap (λ (b : Bool). cond b made (refused R)) (eq-eqb R 0 z)

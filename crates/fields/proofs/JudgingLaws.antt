@@ -4,12 +4,12 @@ use native.Mathlib.Numerals.{add-one}
 use native.Mathlib.Omega.{arith}
 use native.Mathlib.Decide.{decLt}
 use mathlib.Core.Path.{_≡_, refl, sym, ap, ap₂, _∙_}
-use mathlib.Core.Bool.{Bool, true, false, not, _||_}
+use mathlib.Core.Bool.{Bool, true, false, not, _||_, cond}
 use mathlib.Core.List.{List, [], _∷_, _++_}
 use borrow.Author.Tests.{ltb-false, le-leb, lt-leb, lt-ltb, le-ltb, ne-eqb}
 use lib.Dec.{eqb, ltb}
 use lib.ListN.{length}
-use Rattle.fields.specs.Judging.{Field, Entry, Check, onSheet, inTable, entry, check, outside, pick, _then_, checksOf, refusal, judged, each}
+use Rattle.fields.specs.Judging.{Field, Entry, Check, onSheet, inTable, entry, check, outside, _then_, checksOf, refusal, judged, each}
 
 -- ---- the first refusal of two
 pub stop : (a b : ℕ) → (a ≡ 0 → ⊥) → a then b ≡ a
@@ -36,7 +36,7 @@ assoc (suc a) b c = refl
 pub refusal-append : (a b : List Check) → refusal (a ++ b) ≡ refusal a then refusal b
 unfolding refusal _then_
 refusal-append [] b = refl
-refusal-append (c ∷ a) b = ap (λ (x : ℕ). pick (c .applies) (c .number) 0 then x) (refusal-append a b) ∙ assoc (pick (c .applies) (c .number) 0) (refusal a) (refusal b)
+refusal-append (c ∷ a) b = ap (λ (x : ℕ). cond (c .applies) (c .number) 0 then x) (refusal-append a b) ∙ assoc (cond (c .applies) (c .number) 0) (refusal a) (refusal b)
 
 pub checks-append : (a b : List Entry) → checksOf (a ++ b) ≡ checksOf a ++ checksOf b
 unfolding checksOf
@@ -83,13 +83,13 @@ pub no-checks : _≡_ {A = ℕ} 0 (refusal [])
 unfolding refusal
 no-checks = refl
 
-picked : (n : ℕ) (b : Bool) → (n ≡ 0 → ⊥) → pick b n 0 ≡ 0 → b ≡ false
+picked : (n : ℕ) (b : Bool) → (n ≡ 0 → ⊥) → cond b n 0 ≡ 0 → b ≡ false
 picked n true z h = absurd (z h)
 picked n false z h = refl
 
 pub passed : (n : ℕ) (b : Bool) (cs : List Check) → (n ≡ 0 → ⊥) → refusal (check n b ∷ cs) ≡ 0 → (b ≡ false) × (refusal cs ≡ 0)
 unfolding refusal
-passed n b cs z h = let r = neither (pick b n 0) (refusal cs) h in (picked n b z (r .0), r .1)
+passed n b cs z h = let r = neither (cond b n 0) (refusal cs) h in (picked n b z (r .0), r .1)
 
 -- ---- a loop that judges f 0, f 1, .. and holds that none before i refused: it goes on, stops at the refusal r, or ends
 pub each-more : {A : Type 0} (n : ℕ) (f : ℕ → List A) → each (n + 1) f ≡ each n f ++ f n
@@ -198,7 +198,7 @@ inside-means low high v h = let r = or-false (ltb v low) (ltb high v) h in (ltb-
     or-false false b e = (refl, e)
 
 -- an operation that is refused comes to its refusal
-pub refused-is : {O : Type 0} (refused : ℕ → O) (cs : List Check) (done : O) {r : ℕ} → r ≡ refusal cs → (r ≡ 0 → ⊥) → refused r ≡ pick (eqb (refusal cs) 0) done (refused (refusal cs))
+pub refused-is : {O : Type 0} (refused : ℕ → O) (cs : List Check) (done : O) {r : ℕ} → r ≡ refusal cs → (r ≡ 0 → ⊥) → refused r ≡ cond (eqb (refusal cs) 0) done (refused (refusal cs))
 refused-is refused cs done e z = rw (ne-eqb (refusal cs) 0 (λ q. z (e ∙ q))) (ap refused e)
 
 -- lists that agree at each turn are the same

@@ -1,9 +1,9 @@
 -- 01, "Refusal numbers": how fields are judged, wherever they come from. Readers and writers share this.
 use Prim.Native.Nat.{ℕ, zero, suc, _+_, _*_}
-use mathlib.Core.Bool.{Bool, true, false, not, _||_}
+use mathlib.Core.Bool.{Bool, true, false, not, _||_, cond}
 use mathlib.Core.List.{List, [], _∷_, _++_}
 use lib.ListN.{length, getD}
-use lib.Dec.{leb, ltb}
+use lib.Dec.{eqb, leb, ltb}
 use Rattle.fields.specs.Bits.{fieldAt}
 
 infixr 30 _then_
@@ -60,14 +60,14 @@ unfoldable pub _then_ : ℕ → ℕ → ℕ
 zero then b = b
 suc a then b = suc a
 
-abbrev pub pick : {A : Type 0} → Bool → A → A → A
-pick true a b = a
-pick false a b = b
-
 -- the number of the first check that applies; 0 where none does
 unfoldable pub refusal : List Check → ℕ
 refusal [] = 0
-refusal (c ∷ cs) = pick (c .applies) (c .number) 0 then refusal cs
+refusal (c ∷ cs) = cond (c .applies) (c .number) 0 then refusal cs
+
+-- what is done where nothing is refused; else what a refusal with that number answers, which has nothing of what would have been done
+abbrev pub unlessRefused : {A : Type 0} → ℕ → A → (ℕ → A) → A
+unlessRefused n done refused = cond (eqb n 0) done (refused n)
 
 -- the refusal that a list of fields gets
 unfoldable pub judged : List Entry → ℕ

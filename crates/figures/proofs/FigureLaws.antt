@@ -15,7 +15,7 @@ use mir.Facts.{toZ-pos, toZ-ofZ}
 use borrow.Author.Tests.{eq-eqb, ne-eqb}
 use Rattle.task.specs.Sizes.{limits}
 use Rattle.task.specs.Task.{Tenths}
-use Rattle.fields.specs.Judging.{pick, each}
+use Rattle.fields.specs.Judging.{each}
 use Rattle.fields.specs.Places.{puts}
 use Rattle.fields.proofs.PlaceLaws.{puts-next}
 use Rattle.replay.specs.Replay.{hasWay, dash, figure}
@@ -85,7 +85,7 @@ module _ (paid before after : ℕ) (p : paid ≤ 65535) (b : before ≤ limits .
   unfolding wonBy dash
   won-small = either (eqb after (limits .«no_way»))
     where
-      either : (t : Bool) → SFits w32 (pick t (pos (limits .«no_way»)) (pos before -ℤ pos after))
+      either : (t : Bool) → SFits w32 (cond t (pos (limits .«no_way»)) (pos before -ℤ pos after))
       either true = record { sfits = omega arith }
       either false = record { sfits = mag-sub before after (2 ^ hbits w32) (omega arith) (omega arith) }
 
@@ -93,7 +93,7 @@ module _ (paid before after : ℕ) (p : paid ≤ 65535) (b : before ≤ limits .
   unfolding detourBy dash
   detour-small = either (eqb after (limits .«no_way»))
     where
-      either : (t : Bool) → SFits w32 (pick t (pos (limits .«no_way»)) (pos paid -ℤ (pos before -ℤ pos after)))
+      either : (t : Bool) → SFits w32 (cond t (pos (limits .«no_way»)) (pos paid -ℤ (pos before -ℤ pos after)))
       either true = record { sfits = omega arith }
       either false = rw (less-less (pos paid) (pos before) (pos after)) (record { sfits = mag-sub (paid + after) before (2 ^ hbits w32) (omega arith) (omega arith) })
 
@@ -110,13 +110,13 @@ module _ (paid before after : ℕ) (p : paid ≤ 65535) (b : before ≤ limits .
 module _ (p : ℕ) (b a : Option Tenths) (known : (e : Tenths) → a ≡ some e → e < limits .«no_way») (way : hasWay a ≡ true → hasWay b ≡ true) where
   -- what 02 has in the row
   abbrev shown : Option ℤ
-  shown = pick (not (hasWay a)) none (some (pos (Option·getD b 0) -ℤ pos (Option·getD a 0)))
+  shown = cond (not (hasWay a)) none (some (pos (Option·getD b 0) -ℤ pos (Option·getD a 0)))
 
   abbrev Same : Option Tenths → Option Tenths → Type 0
   Same b a =
       rowOf p (Option·getD b (limits .«no_way»)) (Option·getD a (limits .«no_way»))
-      ≡ pos p ∷ figure (pick (not (hasWay a)) none (some (pos (Option·getD b 0) -ℤ pos (Option·getD a 0))))
-      ∷ figure (Option·map (λ w. pos p -ℤ w) (pick (not (hasWay a)) none (some (pos (Option·getD b 0) -ℤ pos (Option·getD a 0))))) ∷ []
+      ≡ pos p ∷ figure (cond (not (hasWay a)) none (some (pos (Option·getD b 0) -ℤ pos (Option·getD a 0))))
+      ∷ figure (Option·map (λ w. pos p -ℤ w) (cond (not (hasWay a)) none (some (pos (Option·getD b 0) -ℤ pos (Option·getD a 0))))) ∷ []
 
   same : (b a : Option Tenths) → ((e : Tenths) → a ≡ some e → e < limits .«no_way») → (hasWay a ≡ true → hasWay b ≡ true) → Same b a
   unfolding rowOf wonBy detourBy hasWay figure

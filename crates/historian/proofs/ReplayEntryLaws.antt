@@ -5,7 +5,7 @@ use native.Mathlib.Omega.{arith}
 use native.Mathlib.Decide.{ℕ-discrete, decLt}
 use mathlib.Core.Path.{_≡_, refl, sym, ap, _∙_, subst}
 use mathlib.Core.Logic.{_⊎_, inl, inr, ⊎-elim}
-use mathlib.Core.Bool.{Bool, true, false}
+use mathlib.Core.Bool.{Bool, true, false, cond}
 use mathlib.Core.List.{List, [], _∷_, _++_, map}
 use lib.Dec.{eqb, ltb}
 use lib.IntN.{ℤ}
@@ -16,7 +16,7 @@ use Rattle.task.specs.Loops.{tab, over}
 use Rattle.task.specs.Task.{Task}
 use Rattle.task.proofs.LoopLaws.{tab-length, over-length}
 use Rattle.task.specs.Sizes.{limits}
-use Rattle.fields.specs.Judging.{Check, check, pick, refusal, each, _then_}
+use Rattle.fields.specs.Judging.{Check, check, refusal, each, _then_}
 use Rattle.fields.specs.Places.{puts}
 use Rattle.fields.proofs.JudgingLaws.{applies, refusal-append}
 use Rattle.sheets.specs.LentTables.{tooFew}
@@ -55,7 +55,7 @@ module _ (t : Task) (log : List ℕ) (n : ℕ) where
   unfolding refused rowCount
   no-rows = split (eqb n 14)
     where
-      split : (b : Bool) → rowCount (pick b (Stopped (badRow t log)) (Refused n)) ≡ 0
+      split : (b : Bool) → rowCount (cond b (Stopped (badRow t log)) (Refused n)) ≡ 0
       split true = refl
       split false = refl
 
@@ -63,7 +63,7 @@ module _ (t : Task) (log : List ℕ) (n : ℕ) where
   unfolding refused rowNamed
   names-row = split (eqb n 14)
     where
-      split : (b : Bool) → rowNamed (pick b (Stopped (badRow t log)) (Refused n)) ≤ length log
+      split : (b : Bool) → rowNamed (cond b (Stopped (badRow t log)) (Refused n)) ≤ length log
       split true = bad-row-within t log
       split false = omega arith
 

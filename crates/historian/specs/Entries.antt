@@ -2,17 +2,18 @@
 use Prim.Native.Nat.{ℕ, _+_, _-_, _*_, _/_, _^_}
 use mathlib.Core.Path.{_≡_}
 use mathlib.Core.List.{List, [], _∷_, _++_}
-use lib.Dec.{eqb, ltb}
+use lib.Dec.{ltb}
 use lib.ListN.{length}
 use Rattle.task.specs.Loops.{over}
 use Rattle.task.specs.Task.{Task}
-use Rattle.fields.specs.Judging.{Check, check, pick, refusal}
+use Rattle.fields.specs.Judging.{Check, check, refusal, unlessRefused}
 use Rattle.values.specs.Values.{bytesOf}
 use Rattle.sheets.specs.ModelSheet.{sheetChecks}
 use Rattle.sheets.specs.Holding.{taskOn}
 use Rattle.run.specs.Run as run
 use Rattle.run.specs.Run.{blockCount, rowsOf}
-use Rattle.refining.specs.Listing.{listed, cutPlace, rowPlace}
+use Rattle.blocks.specs.Flat.{cutPlace}
+use Rattle.run.specs.Listing.{listed, rowPlace}
 use Rattle.running.specs.declared.Answer.{Answer}
 use Rattle.running.specs.declared.Answer.the-variants.{Plan, NoPlan, Open, Refused}
 use Rattle.running.specs.Running.{roomCheck, told}
@@ -53,8 +54,7 @@ madeBytes t o cuts rows =
 -- a refusal returns only its number and changes nothing lent
 unfoldable pub runEntry : List ℕ → ℕ → List ℕ → List ℕ → RunOutcome
 runEntry s room cuts rows =
-    let n = refusal (entryChecks s room cuts rows) in
-    pick (eqb n 0) (madeBytes (taskOn s) (run.run (taskOn s) room) cuts rows) (runOutcome n cuts rows)
+    unlessRefused (refusal (entryChecks s room cuts rows)) (madeBytes (taskOn s) (run.run (taskOn s) room) cuts rows) (λ n. runOutcome n cuts rows)
 
 -- what `elhavir_run` promises, whatever is passed: the answer number and the two lists at exit
 abbrev pub EntryRuns : (s : List ℕ) (room : ℕ) (cuts rows : List ℕ) → ℕ → (cuts′ rows′ : List ℕ) → Type 0
@@ -77,8 +77,9 @@ askOutcome a estimates = record { answer = a; estimates = estimates }
 -- 0 and the bytes of one estimate for each state; or a refusal
 unfoldable pub askEntry : List ℕ → List ℕ → List ℕ → List ℕ → AskOutcome
 askEntry model s states estimates =
-    let n = refusal (askChecks model s states estimates) in
-    pick (eqb n 0) (askOutcome 0 (over (bytesOf (estimatesOf (taskOn model) (cutsOf s) states)) estimates)) (askOutcome n estimates)
+    unlessRefused (refusal (askChecks model s states estimates))
+    (askOutcome 0 (over (bytesOf (estimatesOf (taskOn model) (cutsOf s) states)) estimates))
+    (λ n. askOutcome n estimates)
 
 -- what `elhavir_question` promises, whatever is passed: the answer number and the list at exit
 abbrev pub EntryAsks : (model s states estimates : List ℕ) → ℕ → (estimates′ : List ℕ) → Type 0

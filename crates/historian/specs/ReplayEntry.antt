@@ -2,10 +2,9 @@
 use Prim.Native.Nat.{ℕ, _+_, _*_, _^_}
 use mathlib.Core.Path.{_≡_}
 use mathlib.Core.List.{List, [], _∷_, _++_}
-use lib.Dec.{eqb}
 use lib.ListN.{length}
 use Rattle.task.specs.Loops.{over}
-use Rattle.fields.specs.Judging.{Check, pick, refusal}
+use Rattle.fields.specs.Judging.{Check, refusal, unlessRefused}
 use Rattle.sheets.specs.Holding.{taskOn}
 use Rattle.cut_sheets.specs.CutSheet.{cutSheetChecks, cutsOf}
 use Rattle.values.specs.Values.{valuesOn, signedBytes}
@@ -35,10 +34,9 @@ replayOutcome a rows = record { answer = a; rows = rows }
 -- the bytes of a row for each step over the front of the list; a refusal leaves the list as found
 unfoldable pub replayEntry : List ℕ → List ℕ → List ℕ → List ℕ → ReplayOutcome
 replayEntry model s log rows =
-    let n = refusal (replayEntryChecks model s log rows) in
-    pick (eqb n 0)
+    unlessRefused (refusal (replayEntryChecks model s log rows))
     (replayOutcome (replayNumber (Rows (length (valuesOn log)))) (over (signedBytes (rowList (taskOn model) (cutsOf s) (valuesOn log))) rows))
-    (replayOutcome (replayNumber (refused (taskOn model) (valuesOn log) n)) rows)
+    (λ n. replayOutcome (replayNumber (refused (taskOn model) (valuesOn log) n)) rows)
 
 -- what `elhavir_replay` promises, whatever is passed: the answer number and the list at exit
 abbrev pub EntryReplays : (model s log rows : List ℕ) → ℕ → (rows′ : List ℕ) → Type 0

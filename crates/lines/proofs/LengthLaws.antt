@@ -3,7 +3,7 @@ use Prim.Native.Nat.{ℕ, zero, suc, _+_, _*_, _/_, _≤_, _<_}
 use native.Mathlib.Omega.{arith}
 use native.Mathlib.Decide.{ℕ-discrete}
 use mathlib.Core.Path.{_≡_, refl, sym, _∙_}
-use mathlib.Core.Bool.{Bool, true, false}
+use mathlib.Core.Bool.{Bool, true, false, cond}
 use mathlib.Core.List.{List, [], _∷_, _++_}
 use lib.Dec.{ltb}
 use lib.ListN.{length, getD, drop, length-append}
@@ -12,7 +12,7 @@ use Rattle.task.specs.declared.Step.{Step}
 use Rattle.task.specs.Sizes.{limits}
 use Rattle.task.specs.Task.{Task, Accepted}
 use Rattle.fields.specs.Bits.{fieldAt}
-use Rattle.fields.specs.Judging.{outside, pick, refusal, each}
+use Rattle.fields.specs.Judging.{outside, refusal, each}
 use Rattle.fields.proofs.JudgingLaws.{neither, refusal-append, passed, inside-means}
 use Rattle.sheets.specs.ModelSheet.{sheetChecks, judgeSheet}
 use Rattle.sheets.specs.Holding.{taskOn}
@@ -20,7 +20,7 @@ use Rattle.sheet_laws.proofs.Held.{accepted-task}
 use Rattle.run.specs.Run as run
 use Rattle.run.specs.Run.{plan, noPlan, «open», rowsOf}
 use Rattle.run.proofs.LengthLaws.{plan-short}
-use Rattle.refining.specs.Listing.{listed, rowPlace}
+use Rattle.run.specs.Listing.{listed, rowPlace}
 use Rattle.running.specs.declared.Answer.the-variants.{Refused}
 use Rattle.running.specs.Running.{roomCheck, told}
 use Rattle.running.proofs.RowLaws.{three}
@@ -89,6 +89,6 @@ pub printed-fits : (input : List ℕ) → length (printed input) ≤ 65536
 unfolding printed
 printed-fits input = pick-short (ltb (length input) 2)
   where
-    pick-short : (b : Bool) → length (pick b (firstLine (Refused 1)) (ranLines (drop 2 input) (fieldAt input 0 16))) ≤ 65536
+    pick-short : (b : Bool) → length (cond b (firstLine (Refused 1)) (ranLines (drop 2 input) (fieldAt input 0 16))) ≤ 65536
     pick-short true = omega (arith, first-short (Refused 1))
     pick-short false = ran-short (drop 2 input) (fieldAt input 0 16)

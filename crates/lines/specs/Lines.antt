@@ -1,21 +1,22 @@
 -- 01, "The small re-thread": the lines that the program prints, in ASCII.
 use Prim.Native.Nat.{ℕ, _+_, _*_, _/_, _^_}
 use mathlib.Core.Path.{_≡_}
+use mathlib.Core.Bool.{cond}
 use mathlib.Core.List.{List, [], _∷_, _++_}
 use mathlib.Core.Option.{Option·getD}
-use lib.Dec.{eqb, ltb}
+use lib.Dec.{ltb}
 use lib.ListN.{length, getD, drop}
 use Rattle.io.specs.Digits.{digits}
 use Rattle.task.specs.Loops.{first, when}
 use Rattle.task.specs.Task.{Task}
 use Rattle.fields.specs.Bits.{fieldAt}
-use Rattle.fields.specs.Judging.{pick, refusal, each}
+use Rattle.fields.specs.Judging.{refusal, each, unlessRefused}
 use Rattle.fields.specs.Places.{puts}
 use Rattle.sheets.specs.ModelSheet.{sheetChecks}
 use Rattle.sheets.specs.Holding.{taskOn}
 use Rattle.run.specs.Run as run
 use Rattle.run.specs.Run.{blockCount, rowsOf}
-use Rattle.refining.specs.Listing.{listed, rowPlace}
+use Rattle.run.specs.Listing.{listed, rowPlace}
 use Rattle.running.specs.declared.Answer.{Answer}
 use Rattle.running.specs.declared.Answer.the-variants.{Plan, NoPlan, Open, Refused}
 use Rattle.running.specs.Running.{roomCheck, told}
@@ -80,12 +81,11 @@ madeLines t o = firstLine (told t (blockCount o) (o .answer)) ++ rowLines (liste
 -- the sheet is judged, then 7
 unfoldable pub ranLines : List ℕ → ℕ → List ℕ
 ranLines s room =
-    let n = refusal (sheetChecks s ++ (roomCheck room ∷ [])) in
-    pick (eqb n 0) (madeLines (taskOn s) (run.run (taskOn s) room)) (firstLine (Refused n))
+    unlessRefused (refusal (sheetChecks s ++ (roomCheck room ∷ []))) (madeLines (taskOn s) (run.run (taskOn s) room)) (λ n. firstLine (Refused n))
 
 -- room in 16 bits, then a model sheet; fewer than two bytes is refusal 1
 unfoldable pub printed : List ℕ → List ℕ
-printed input = pick (ltb (length input) 2) (firstLine (Refused 1)) (ranLines (drop 2 input) (fieldAt input 0 16))
+printed input = cond (ltb (length input) 2) (firstLine (Refused 1)) (ranLines (drop 2 input) (fieldAt input 0 16))
 
 -- ---- bytes put one after the other: from place at on, and where the next goes
 pub record Put (at : ℕ) (xs l : List ℕ) (r : ℕ) (l′ : List ℕ) : Type 0 where

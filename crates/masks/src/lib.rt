@@ -5,9 +5,12 @@ ghost use lib.ListN.{length};
 ghost use Rattle.task.specs.Sizes.{limits};
 ghost use Rattle.blocks.specs.Masks.{lies, allLie, passes, markSet, landSet, needSets, landSets, goalSets, leadsBy, goalBy};
 use task::Block;
+use task::BlockSets;
+use task::ColumnSets;
 use task::Mark;
 use task::Model;
 use task::Step;
+use task::StepSets;
 
 // The position of a mark as a set.
 fn mark_set(mark: Mark) -> u32
@@ -34,7 +37,7 @@ fn land_set(need: Mark, effect: Mark) -> u32
 }
 
 // The needs of every step as sets.
-pub fn fill_needs(model: Model, needs: &mut [u32; Model::STEPS * Model::COLUMNS])
+pub fn fill_needs(model: Model, needs: &mut StepSets)
     requires { ⌜ length (now needs) ≡ limits .steps * limits .columns ⌝ }
     ensures { λ _. ⌜ now (needs .exit) ≡ needSets model ⌝ }
 {
@@ -46,7 +49,7 @@ pub fn fill_needs(model: Model, needs: &mut [u32; Model::STEPS * Model::COLUMNS]
 }
 
 // Where every step lands, as sets.
-pub fn fill_lands(model: Model, lands: &mut [u32; Model::STEPS * Model::COLUMNS])
+pub fn fill_lands(model: Model, lands: &mut StepSets)
     requires { ⌜ length (now lands) ≡ limits .steps * limits .columns ⌝ }
     ensures { λ _. ⌜ now (lands .exit) ≡ landSets model ⌝ }
 {
@@ -58,7 +61,7 @@ pub fn fill_lands(model: Model, lands: &mut [u32; Model::STEPS * Model::COLUMNS]
 }
 
 // The goal as sets.
-pub fn fill_goals(model: Model, goals: &mut [u32; Model::COLUMNS])
+pub fn fill_goals(model: Model, goals: &mut ColumnSets)
     requires { ⌜ length (now goals) ≡ limits .columns ⌝ }
     ensures { λ _. ⌜ now (goals .exit) ≡ goalSets model ⌝ }
 {
@@ -91,9 +94,9 @@ pub fn leads(
     step: Step,
     a: Block,
     b: Block,
-    needs: &[u32; Model::STEPS * Model::COLUMNS],
-    lands: &[u32; Model::STEPS * Model::COLUMNS],
-    sets: &[u32; Model::BLOCKS * Model::COLUMNS],
+    needs: &StepSets,
+    lands: &StepSets,
+    sets: &BlockSets,
 ) -> bool
     requires { ⌜ (columns ≤ limits .columns) × (step .0 < limits .steps) × (a .0 < limits .blocks) × (b .0 < limits .blocks) ⌝ }
     ensures { λ r. ⌜ r ≡ leadsBy columns (now (needs .entry)) (now (lands .entry)) (now (sets .entry)) (step .0) (a .0) (b .0) ⌝ }
@@ -134,12 +137,7 @@ pub fn all_lie(n: usize, i: usize, k: usize, wants: &[u32], sets: &[u32]) -> boo
 }
 
 // Whether block a is a goal block.
-pub fn is_goal_block(
-    columns: usize,
-    a: Block,
-    goals: &[u32; Model::COLUMNS],
-    sets: &[u32; Model::BLOCKS * Model::COLUMNS],
-) -> bool
+pub fn is_goal_block(columns: usize, a: Block, goals: &ColumnSets, sets: &BlockSets) -> bool
     requires { ⌜ (columns ≤ limits .columns) × (a .0 < limits .blocks) ⌝ }
     ensures { λ r. ⌜ r ≡ goalBy columns (now (goals .entry)) (now (sets .entry)) (a .0) ⌝ }
 {

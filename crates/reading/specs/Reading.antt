@@ -2,9 +2,8 @@
 use Prim.Native.Nat.{ℕ}
 use mathlib.Core.Path.{_≡_}
 use mathlib.Core.List.{List}
-use lib.Dec.{eqb}
 use Rattle.task.specs.Loops.{over}
-use Rattle.fields.specs.Judging.{pick, refusal}
+use Rattle.fields.specs.Judging.{refusal, unlessRefused}
 use Rattle.sheets.specs.ModelSheet.{columnsOf, stepsOf, ofSheet}
 use Rattle.sheets.specs.LentTables.{frameOf, costsOf, marksOf, readChecks}
 use Rattle.reading.specs.declared.ModelRead.{ModelRead}
@@ -27,10 +26,9 @@ outcome a frame costs marks = record { answer = a; frame = frame; costs = costs;
 -- a refusal returns only its number and changes nothing lent; else the tables hold the model, and places past the last one used stay
 unfoldable pub reading : List ℕ → List ℕ → List ℕ → List ℕ → Outcome
 reading s frame costs marks =
-    let n = refusal (readChecks s frame costs marks) in
-    pick (eqb n 0)
+    unlessRefused (refusal (readChecks s frame costs marks))
     (outcome (Held (columnsOf s) (stepsOf s)) (over (frameOf (ofSheet s)) frame) (over (costsOf (ofSheet s)) costs) (over (marksOf (ofSheet s)) marks))
-    (outcome (Refused n) frame costs marks)
+    (λ n. outcome (Refused n) frame costs marks)
 
 -- what `read_model` promises, whatever is passed: the answer and the three tables at exit
 abbrev pub ReadsModel : (sheet frame costs marks : List ℕ) → ModelRead → (frame′ costs′ marks′ : List ℕ) → Type 0

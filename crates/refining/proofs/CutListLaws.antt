@@ -10,9 +10,9 @@ use Rattle.task.proofs.LoopLaws.{tab-ext}
 use Rattle.fields.specs.Places.{puts}
 use Rattle.fields.proofs.PlaceLaws.{puts-append}
 use Rattle.blocks.specs.declared.Cut.{Cut}
-use Rattle.blocks.specs.Flat.{cutAt, cutsIn}
+use Rattle.blocks.specs.Flat.{cutAt, cutsIn, cutPlace}
 use Rattle.blocks.proofs.FollowLaws.{cuts-more, cuts-length}
-use Rattle.refining.specs.Listing.{listed, cutPlace}
+use Rattle.run.specs.Listing.{listed}
 
 module _ (n : ℕ) (c : Cut) (l : List ℕ) where
   abbrev next : List ℕ

@@ -25,8 +25,7 @@ use Rattle.walk.specs.declared.Found.{Found}
 use Rattle.walk.specs.declared.Found.the-variants as walk
 use Rattle.standing.specs.Standing.{Stands}
 use Rattle.standing.proofs.StartLaws as begin
-use Rattle.walk.specs.Walking.{Begins, seen, Known, walked}
-use Rattle.refining.specs.Listing.{pathSteps}
+use Rattle.walk.specs.Walking.{Begins, seen, Known, walked, pathSteps}
 use Rattle.refining.specs.Refining.{Given, Made, lookOf, toldBy, KnownSeen}
 
 -- ---- what was told of a walk

@@ -12,7 +12,7 @@ use Rattle.fields.specs.Places.{puts}
 use Rattle.fields.proofs.PlaceLaws.{puts-length, puts-over}
 use Rattle.blocks.specs.declared.Cut.{Cut}
 use Rattle.blocks.specs.Blocks.{accepted, blocksOf}
-use Rattle.blocks.specs.Flat.{cutsIn, cutIn}
+use Rattle.blocks.specs.Flat.{cutsIn, cutIn, cutPlace}
 use Rattle.blocks.proofs.PartLaws.{fits}
 use Rattle.blocks.proofs.CutLaws.{blocks-length}
 use Rattle.blocks.proofs.FlatLaws.{cut-in-length}
@@ -23,7 +23,7 @@ use Rattle.run.proofs.RunLaws.{flaw-accepted}
 use Rattle.refining.specs.declared.Seen.the-variants.{Hopeless, Planned, Flaw}
 use Rattle.refining.specs.declared.Seen as code
 use Rattle.refining.specs.declared.Ended.{Ended}
-use Rattle.refining.specs.Listing.{listed, cutPlace}
+use Rattle.run.specs.Listing.{listed}
 use Rattle.refining.specs.Refining.{Given, Made, lookOf, answerOf, blocksTold, endBy, KnownSeen, KnownEnd, RunEnds}
 use Rattle.refining.proofs.CutListLaws.{cut-put, list-more, listed-length}
 

@@ -1,2 +1,1 @@
 pub mod Refining
-pub mod Listing

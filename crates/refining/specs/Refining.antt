@@ -8,13 +8,14 @@ use Rattle.task.specs.Loops.{over}
 use Rattle.task.specs.Sizes.{limits}
 use Rattle.task.specs.Task.{Task, State, Accepted, start}
 use Rattle.blocks.specs.Blocks.{accepted, blocksOf}
-use Rattle.blocks.specs.Flat.{blocksIn, cutsIn}
+use Rattle.blocks.specs.Flat.{blocksIn, cutsIn, cutPlace}
 use Rattle.settling.specs.Coded.{Tables}
 use Rattle.run.specs.Run as run
 use Rattle.run.specs.Run.{Outcome, hopeless, planned, flaw, plan, noPlan, «open»}
 use Rattle.walk.specs.declared.Found.{Found}
 use Rattle.walk.specs.declared.Found.the-variants as walk
-use Rattle.refining.specs.Listing.{listed, cutPlace, pathSteps}
+use Rattle.run.specs.Listing.{listed}
+use Rattle.walk.specs.Walking.{pathSteps}
 use Rattle.refining.specs.declared.Seen.{Seen}
 use Rattle.refining.specs.declared.Seen.the-variants.{Hopeless, Planned, Flaw}
 use Rattle.refining.specs.declared.Ended.{Ended}

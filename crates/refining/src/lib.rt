@@ -8,12 +8,11 @@ ghost use Rattle.task.specs.Tables.{taskOf};
 ghost use Rattle.task.specs.Task.{Task, Accepted};
 ghost use Rattle.fields.specs.Places.{puts};
 ghost use Rattle.blocks.specs.Blocks.{blocksOf};
-ghost use Rattle.blocks.specs.Flat.{cutsIn};
+ghost use Rattle.blocks.specs.Flat.{cutsIn, cutPlace};
 ghost use Rattle.settling.specs.Ways.{noWay};
 ghost use Rattle.run.specs.Run as run;
 ghost use Rattle.run.specs.Run.{refine};
 ghost use Rattle.refining.specs.declared.Ended.the-variants.{Open};
-ghost use Rattle.refining.specs.Listing.{cutPlace};
 ghost use Rattle.refining.specs.Refining.{Given, Made, Ready, lookOf, toldBy, KnownSeen, endBy, RunEnds};
 use blocks::Cut;
 use cutting::block_of;
@@ -24,8 +23,13 @@ use masks::fill_lands;
 use masks::fill_needs;
 use settling::fill_distances;
 use standing::stand;
+use task::BlockSets;
+use task::ColumnSets;
+use task::Distances;
 use task::Model;
+use task::Path;
 use task::State;
+use task::StepSets;
 use walk::Found;
 use walk::follow;
 
@@ -71,14 +75,14 @@ pub fn look(
     steps: usize,
     made: usize,
     start: State,
-    needs: &[u32; Model::STEPS * Model::COLUMNS],
-    lands: &[u32; Model::STEPS * Model::COLUMNS],
-    goals: &[u32; Model::COLUMNS],
+    needs: &StepSets,
+    lands: &StepSets,
+    goals: &ColumnSets,
     costs: &[u16],
     cuts: &[u32],
-    sets: &[u32; Model::BLOCKS * Model::COLUMNS],
-    dist: &mut [u64; Model::BLOCKS],
-    path: &mut [u8; Model::BLOCKS],
+    sets: &BlockSets,
+    dist: &mut Distances,
+    path: &mut Path,
 ) -> Seen
     requires { ⌜ (made < limits .blocks) × (made * 3 ≤ length (now cuts)) × (steps ≤ length (now costs)) × (length (now dist) ≡ limits .blocks) × (length (now path) ≡ limits .blocks) ⌝ ∗ ⌜ Ready columns steps start (now needs) (now lands) (now goals) (now costs) made (now cuts) (now sets) ⌝ }
     ensures { λ r. ⌜ ((t : Task) → Given t columns steps start (now (needs .entry)) (now (lands .entry)) (now (goals .entry)) (now (costs .entry)) → Made t columns made (now (cuts .entry)) (now (sets .entry)) → lookOf r (now (path .exit)) ≡ run.look t (blocksOf t (cutsIn made (now (cuts .entry))))) ⌝ ∗ ⌜ KnownSeen steps r (now (path .exit)) × (length (now (dist .exit)) ≡ limits .blocks) × (length (now (path .exit)) ≡ limits .blocks) ⌝ }
@@ -146,14 +150,14 @@ fn cut_on(
     steps: usize,
     spare: usize,
     start: State,
-    needs: &[u32; Model::STEPS * Model::COLUMNS],
-    lands: &[u32; Model::STEPS * Model::COLUMNS],
-    goals: &[u32; Model::COLUMNS],
+    needs: &StepSets,
+    lands: &StepSets,
+    goals: &ColumnSets,
     costs: &[u16],
     cuts: &mut [u32],
-    sets: &mut [u32; Model::BLOCKS * Model::COLUMNS],
-    dist: &mut [u64; Model::BLOCKS],
-    path: &mut [u8; Model::BLOCKS],
+    sets: &mut BlockSets,
+    dist: &mut Distances,
+    path: &mut Path,
 ) -> Ended
     requires { ⌜ (spare < limits .blocks) × (spare * 3 ≤ length (now cuts)) × (steps ≤ length (now costs)) × (length (now sets) ≡ limits .blocks * limits .columns) × (length (now dist) ≡ limits .blocks) × (length (now path) ≡ limits .blocks) ⌝ ∗ ⌜ Ready columns steps start (now needs) (now lands) (now goals) (now costs) 0 (now cuts) (now sets) ⌝ }
     ensures { λ r. ⌜ ((t : Task) → Given t columns steps start (now (needs .entry)) (now (lands .entry)) (now (goals .entry)) (now (costs .entry)) → Made t columns 0 (now (cuts .entry)) (now (sets .entry)) → RunEnds (refine t spare []) r steps (now (cuts .entry)) (now (cuts .exit)) (now (path .exit))) ⌝ ∗ ⌜ length (now (path .exit)) ≡ limits .blocks ⌝ }
@@ -187,7 +191,7 @@ fn cut_on(
 }
 
 // A run with room for so many blocks besides the first: its cuts go into the list, and the steps of its plan into the path.
-pub fn refine(model: Model, spare: usize, cuts: &mut [u32], path: &mut [u8; Model::BLOCKS]) -> Ended
+pub fn refine(model: Model, spare: usize, cuts: &mut [u32], path: &mut Path) -> Ended
     requires { ⌜ Accepted (taskOf model) × (spare < limits .blocks) × (spare * 3 ≤ length (now cuts)) × (length (now path) ≡ limits .blocks) ⌝ }
     ensures { λ r. ⌜ RunEnds (refine (taskOf model) spare []) r (model .steps) (now (cuts .entry)) (now (cuts .exit)) (now (path .exit)) ⌝ ∗ ⌜ length (now (path .exit)) ≡ limits .blocks ⌝ }
 {

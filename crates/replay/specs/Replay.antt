@@ -2,7 +2,7 @@
 -- ground won and the detour." Row i here is counted from 0.
 use Prim.Native.Nat.{ℕ, zero, suc, _+_, _*_}
 use mathlib.Core.Path.{_≡_}
-use mathlib.Core.Bool.{Bool, true, false, not, _&&_}
+use mathlib.Core.Bool.{Bool, true, false, not, _&&_, cond}
 use mathlib.Core.List.{List, [], _∷_, _++_}
 use mathlib.Core.Option.{Option, none, some, Option·map, Option·getD}
 use lib.Dec.{eqb, ltb}
@@ -12,7 +12,7 @@ use Rattle.task.specs.declared.Step.{Step}
 use Rattle.task.specs.Loops.{all, first, when, over}
 use Rattle.task.specs.Sizes.{limits}
 use Rattle.task.specs.Task.{Task, State, Tenths, step, stepCount, costOf, start, canTake, taken}
-use Rattle.fields.specs.Judging.{Check, check, pick, refusal, each}
+use Rattle.fields.specs.Judging.{Check, check, refusal, each, unlessRefused}
 use Rattle.sheets.specs.LentTables.{tooFew}
 use Rattle.sheets.specs.Holding.{taskOn}
 use Rattle.blocks.specs.declared.Cut.{Cut}
@@ -69,7 +69,7 @@ module _ (t : Task) (cs : List Cut) (log : List ℕ) where
 
   -- ground won, and detour: paid less won. A dash is none
   unfoldable pub won : ℕ → Option ℤ
-  won i = pick (dashed i) none (some (difference i))
+  won i = cond (dashed i) none (some (difference i))
 
   unfoldable pub detour : ℕ → Option ℤ
   detour i = Option·map (λ w. pos (paid t log i) -ℤ w) (won i)
@@ -118,7 +118,7 @@ rowCount (Refused n) = 0
 
 -- 14 comes with the first such row
 unfoldable pub refused : Task → List ℕ → ℕ → Replayed
-refused t log n = pick (eqb n 14) (Stopped (badRow t log)) (Refused n)
+refused t log n = cond (eqb n 14) (Stopped (badRow t log)) (Refused n)
 
 pub record Outcome : Type 0 where
   pub answer : Replayed
@@ -130,10 +130,9 @@ outcome a rows = record { answer = a; rows = rows }
 -- a refusal leaves the list as found; else it has a row for each step, and places past the last row stay
 unfoldable pub replaying : List ℕ → List ℕ → List ℕ → List ℤ → Outcome
 replaying model s log rows =
-    let n = refusal (replayChecks model s log rows) in
-    pick (eqb n 0)
+    unlessRefused (refusal (replayChecks model s log rows))
     (outcome (Rows (length log)) (over (rowList (taskOn model) (cutsOf s) log) rows))
-    (outcome (refused (taskOn model) log n) rows)
+    (λ n. outcome (refused (taskOn model) log n) rows)
 
 -- what `replay` promises, whatever is passed: the answer and the list at exit
 abbrev pub Replays : (model s log : List ℕ) (rows : List ℤ) → Replayed → (rows′ : List ℤ) → Type 0

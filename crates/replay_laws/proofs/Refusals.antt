@@ -3,7 +3,7 @@
 use Prim.Native.Nat.{ℕ, _≤_, _*_}
 use native.Mathlib.Omega.{arith}
 use mathlib.Core.Path.{_≡_, refl, sym, ap, _∙_}
-use mathlib.Core.Bool.{Bool, true, false, not}
+use mathlib.Core.Bool.{Bool, true, false, not, cond}
 use mathlib.Core.List.{List, [], _∷_, _++_}
 use lib.Dec.{eqb, ltb}
 use lib.IntN.{ℤ}
@@ -12,7 +12,7 @@ use borrow.Author.Tests.{eqb-true, eqb-false, eq-eqb, ltb-false, not-true, not-f
 use Rattle.task.specs.Loops.{over}
 use Rattle.task.specs.Sizes.{limits}
 use Rattle.task.specs.Task.{Task}
-use Rattle.fields.specs.Judging.{Check, check, pick, _then_, refusal}
+use Rattle.fields.specs.Judging.{Check, check, _then_, refusal}
 use Rattle.fields.proofs.ExactLaws.{has, Numbers, numbers-append, gives, Judged, judges}
 use Rattle.fields.proofs.JudgingLaws.{neither, passed, refusal-append}
 use Rattle.sheets.specs.Holding.{taskOn}
@@ -29,7 +29,7 @@ pub refused-number : (t : Task) (log : List ℕ) (n : ℕ) → number (refused t
 unfolding number refused
 refused-number t log n = split (eqb n 14) refl
   where
-    split : (b : Bool) → eqb n 14 ≡ b → number (pick b (Stopped (badRow t log)) (Refused n)) ≡ n
+    split : (b : Bool) → eqb n 14 ≡ b → number (cond b (Stopped (badRow t log)) (Refused n)) ≡ n
     split true e = sym (eqb-true n 14 e)
     split false e = refl
 

@@ -12,7 +12,7 @@ use Rattle.task.specs.declared.Step.{Step}
 use Rattle.task.specs.Loops.{orElse, when, first}
 use Rattle.task.specs.Sizes.{limits}
 use Rattle.task.specs.Task.{Task, State, Accepted, column, step, at, columnCount, stepCount, isState, start, canTake, taken}
-use Rattle.task.proofs.LoopLaws.{and-left, and-right, first-none, first-some, when-some, when-none}
+use Rattle.task.proofs.LoopLaws.{and-left, and-right, first-none, first-some, when-some, when-none, first-empty, or-none}
 use Rattle.blocks.specs.Blocks.{holds, isEmpty, common, only, accepted, blocksOf}
 use Rattle.blocks.specs.Masks.{Told}
 use Rattle.blocks.specs.Flat.{cutAt, cutsIn, goesOn, followed}
@@ -21,18 +21,12 @@ use Rattle.settling.specs.Coded.{codedOver}
 use Rattle.settling.proofs.CostLaws.{cost-found}
 use Rattle.standing.specs.Standing.{Stands, takesBy}
 use Rattle.standing.proofs.StandLaws.{takes-is, stands-taken, apart-only, twice}
-use Rattle.trace.proofs.HopLaws.{first-empty}
 use Rattle.along.specs.Along.{hereAfter, goesBy, stopAt, stopRow, sendsOn, blockBy, costBy}
 use Rattle.replay.specs.Replay.{stepAt, before, badAt, badRow}
 
 and-when : (a : Bool) {b c : Bool} → (a ≡ true → b ≡ c) → (a && b) ≡ (a && c)
 and-when true f = f refl
 and-when false f = refl
-
--- nothing was found before what comes last, and that is nothing either
-none-less : {A : Type 0} (o p : Option A) → orElse o p ≡ none → (o ≡ none) × (p ≡ none)
-none-less none p e = (refl, e)
-none-less (some a) p e = let z : _≡_ {A = ℕ} 0 1 = cc in absurd (omega arith)
 
 module _ (t : Task) {columns steps : ℕ} {needs lands goals : List ℕ} (wide : columnCount t ≡ columns) (long : stepCount t ≡ steps) (told : Told t needs lands goals)
     (log here : List ℕ) (begin : Stands t (start t) here) where
@@ -58,7 +52,7 @@ module _ (t : Task) {columns steps : ℕ} {needs lands goals : List ℕ} (wide :
   stands-at : (i : ℕ) → first i (stopAt columns steps needs lands log here) ≡ none → Stands t (before t log i) (hereAfter columns lands log here i)
   unfolding first
   stands-at zero h = unfold hereAfter before in begin
-  stands-at (suc i) h = let n = none-less (first i (stopAt columns steps needs lands log here)) _ h in next i (stands-at i (n .0)) (n .1)
+  stands-at (suc i) h = let n = or-none (first i (stopAt columns steps needs lands log here)) _ h in next i (stands-at i (n .0)) (n .1)
 
   same-first : (n : ℕ) → first n (stopAt columns steps needs lands log here) ≡ first n (λ i. when (badAt t log i) (i + 1))
   unfolding first

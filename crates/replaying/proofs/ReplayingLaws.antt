@@ -2,7 +2,7 @@
 use Prim.Native.Nat.{ℕ, _+_, _*_, _≤_, _<_}
 use native.Mathlib.Omega.{arith}
 use mathlib.Core.Path.{_≡_, refl, sym, ap, _∙_}
-use mathlib.Core.Bool.{Bool, true, false, not}
+use mathlib.Core.Bool.{Bool, true, false, not, cond}
 use mathlib.Core.List.{List, [], _∷_, _++_}
 use mathlib.Core.Option.{Option, Option·getD}
 use lib.Dec.{eqb, ltb}
@@ -13,7 +13,7 @@ use Rattle.task.specs.Loops.{tab, over}
 use Rattle.task.specs.Sizes.{limits}
 use Rattle.task.specs.Task.{Task, Accepted, columnCount, isState}
 use Rattle.task.proofs.LoopLaws.{over-at}
-use Rattle.fields.specs.Judging.{Check, check, pick, refusal, each, _then_}
+use Rattle.fields.specs.Judging.{Check, check, refusal, each, _then_}
 use Rattle.fields.specs.Places.{puts}
 use Rattle.fields.proofs.JudgingLaws.{stop, go, applies, passes, no-checks, refusal-append, refused-is, each-ext}
 use Rattle.fields.proofs.PlaceLaws.{each-length, puts-over}
@@ -71,7 +71,7 @@ module _ (m s log : List ℕ) (rows : List ℤ) where
       unfolding replaying replayedOn logChecks
       ends h e =
           e
-          ∙ ap (λ (n : ℕ). pick (eqb n 0) (outcome (Rows (length log)) (over (rowList (taskOn m) (cutsOf s) log) rows)) (outcome (refused (taskOn m) log n) rows))
+          ∙ ap (λ (n : ℕ). cond (eqb n 0) (outcome (Rows (length log)) (over (rowList (taskOn m) (cutsOf s) log) rows)) (outcome (refused (taskOn m) log n) rows))
           (passes 15 (ltb (limits .log) (length log)) _ (le-ltb _ _ h) refl ∙ sym left)
 
 -- ---- the log and the places

@@ -9,7 +9,7 @@ use lib.ListN.{length}
 use Rattle.task.specs.Loops.{over}
 use Rattle.task.specs.Sizes.{limits}
 use Rattle.task.specs.Task.{Task, columnCount, start}
-use Rattle.fields.specs.Judging.{check, pick, refusal}
+use Rattle.fields.specs.Judging.{check, refusal, unlessRefused}
 use Rattle.sheets.specs.ModelSheet.{judgeSheet}
 use Rattle.sheets.specs.Holding.{taskOn}
 use Rattle.sheets.specs.LentTables.{tooFew}
@@ -40,5 +40,6 @@ pub record Sheets (model part sets : List ℕ) : Type 0 where
 -- what is left of a replay after the sheets and the length of its log: 14, then 8
 unfoldable pub replayedOn : Task → List Cut → List ℕ → List ℤ → Outcome
 replayedOn t cs log rows =
-    let n = refusal (check 14 (not (eqb (badRow t log) 0)) ∷ tooFew (length log * 3) rows ∷ []) in
-    pick (eqb n 0) (outcome (Rows (length log)) (over (rowList t cs log) rows)) (outcome (refused t log n) rows)
+    unlessRefused (refusal (check 14 (not (eqb (badRow t log) 0)) ∷ tooFew (length log * 3) rows ∷ []))
+    (outcome (Rows (length log)) (over (rowList t cs log) rows))
+    (λ n. outcome (refused t log n) rows)

@@ -20,23 +20,27 @@ use masks::fill_needs;
 use replay::Replayed;
 use settling::fill_distances;
 use standing::stand;
+use task::BlockSets;
+use task::ColumnSets;
+use task::Costs;
 use task::Model;
+use task::StepSets;
 use unpack::unpack_model;
 
 // What is left of a model beside the tables of its needs, landings and goals.
 struct Frame {
     columns: usize,
     steps: usize,
-    costs: [u16; Model::STEPS],
+    costs: Costs,
 }
 
 // The model of an accepted sheet in tables, and its start as it stands. The model itself is done with when this returns: the distances need the stack.
 fn fill_tables(
     model: &[u8],
-    needs: &mut [u32; Model::STEPS * Model::COLUMNS],
-    lands: &mut [u32; Model::STEPS * Model::COLUMNS],
-    goals: &mut [u32; Model::COLUMNS],
-    here: &mut [u32; Model::COLUMNS],
+    needs: &mut StepSets,
+    lands: &mut StepSets,
+    goals: &mut ColumnSets,
+    here: &mut ColumnSets,
 ) -> Frame
     requires { ⌜ judgeSheet (now model) ≡ 0 ⌝
         ∗ ⌜ (length (now needs) ≡ limits .steps * limits .columns) × (length (now lands) ≡ limits .steps * limits .columns) ⌝
@@ -61,13 +65,7 @@ fn fill_tables(
 }
 
 // A replay of an accepted model after the cuts of an accepted part, whose blocks stand in the array.
-fn replay_on(
-    model: &[u8],
-    part: &[u8],
-    sets: &[u32; Model::BLOCKS * Model::COLUMNS],
-    log: &[u32],
-    rows: &mut [i32],
-) -> Replayed
+fn replay_on(model: &[u8], part: &[u8], sets: &BlockSets, log: &[u32], rows: &mut [i32]) -> Replayed
     requires { ⌜ Sheets (now model) (now part) (now sets) ⌝ ∗ ⌜ length (now log) ≤ limits .log ⌝ }
     ensures { λ r. ⌜ outcome r (now (rows .exit))
         ≡ replayedOn (taskOn (now (model .entry))) (cutsNamed (cutOn (now (part .entry))) (countOf (now (part .entry))))

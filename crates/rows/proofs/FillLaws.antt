@@ -15,7 +15,7 @@ use Rattle.task.specs.Sizes.{limits}
 use Rattle.task.specs.Task.{step}
 use Rattle.task.proofs.LoopLaws.{true-or-false, all-at, all-intro, tab-length, tab-at, over-none, over-more, over-length}
 use Rattle.run.specs.declared.Row.{Row}
-use Rattle.refining.specs.Listing.{listed, rowPlace}
+use Rattle.run.specs.Listing.{listed, rowPlace}
 use Rattle.refining.proofs.CutListLaws.{listed-three}
 use Rattle.rows.specs.Rows.{rowIn, stepsNamed, fitting, filled, filling, PutsRows}
 

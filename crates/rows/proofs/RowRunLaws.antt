@@ -25,7 +25,7 @@ use Rattle.run.specs.Run as run
 use Rattle.run.specs.Run.{plan, noPlan, «open», rows, rowsOf, blockCount}
 use Rattle.blocks.specs.declared.Cut.{Cut}
 use Rattle.run.proofs.RunLaws.{Right, run-right}
-use Rattle.refining.specs.Listing.{listed, rowPlace}
+use Rattle.run.specs.Listing.{listed, rowPlace}
 use Rattle.running.specs.declared.Answer.{Answer}
 use Rattle.running.specs.declared.Answer.the-variants.{Refused}
 use Rattle.running.specs.Running as running

@@ -1,21 +1,22 @@
 -- 01, "A run" and "Places and their forms": the rows of the change sheet in a lent list of rows.
 use Prim.Native.Nat.{ℕ, _+_, _-_, _*_, _/_}
 use mathlib.Core.Path.{_≡_}
-use mathlib.Core.Bool.{Bool}
+use mathlib.Core.Bool.{Bool, cond}
 use mathlib.Core.List.{List, [], _∷_, _++_}
-use lib.Dec.{eqb, ltb}
+use lib.Dec.{ltb}
 use lib.ListN.{length, getD}
 use Rattle.task.specs.Loops.{all, tab, over}
 use Rattle.task.specs.Sizes.{limits}
 use Rattle.task.specs.Task.{step}
-use Rattle.fields.specs.Judging.{Check, pick, refusal}
+use Rattle.fields.specs.Judging.{Check, refusal, unlessRefused}
 use Rattle.sheets.specs.ModelSheet.{sheetChecks}
 use Rattle.sheets.specs.Holding.{taskOn}
 use Rattle.sheets.specs.LentTables.{tooFew}
 use Rattle.run.specs.declared.Row.{Row}
 use Rattle.run.specs.Run as run
 use Rattle.run.specs.Run.{blockCount, rowsOf}
-use Rattle.refining.specs.Listing.{listed, cutPlace}
+use Rattle.blocks.specs.Flat.{cutPlace}
+use Rattle.run.specs.Listing.{listed}
 use Rattle.running.specs.declared.Answer.{Answer}
 use Rattle.running.specs.declared.Answer.the-variants.{Refused}
 use Rattle.running.specs.Running.{roomCheck, told}
@@ -31,7 +32,7 @@ stepsNamed vs n = all n (λ i. ltb (getD vs (i * 3) 0) (limits .steps))
 
 -- n, where n rows have places and n rows' values are there, each with a step; else none
 unfoldable pub fitting : ℕ → List ℕ → ℕ → ℕ
-fitting places vs n = pick (ltb places n) 0 (pick (ltb (length vs / 3) n) 0 (pick (stepsNamed vs n) n 0))
+fitting places vs n = cond (ltb places n) 0 (cond (ltb (length vs / 3) n) 0 (cond (stepsNamed vs n) n 0))
 
 pub record Filled : Type 0 where
   pub count : ℕ
@@ -66,10 +67,11 @@ outcome a cuts rows = record { answer = a; cuts = cuts; rows = rows }
 -- the answer, the cuts over the front of one list and a plan's rows over that of the other; a refusal changes nothing lent
 unfoldable pub rowRun : List ℕ → ℕ → List ℕ → List Row → Outcome
 rowRun s room cuts rows =
-    let n = refusal (rowChecks s room cuts rows) in
     let t = taskOn s in
     let o = run.run t room in
-    pick (eqb n 0) (outcome (told t (blockCount o) (o .answer)) (over (listed cutPlace (o .made)) cuts) (over (rowsOf t (o .answer)) rows)) (outcome (Refused n) cuts rows)
+    unlessRefused (refusal (rowChecks s room cuts rows))
+    (outcome (told t (blockCount o) (o .answer)) (over (listed cutPlace (o .made)) cuts) (over (rowsOf t (o .answer)) rows))
+    (λ n. outcome (Refused n) cuts rows)
 
 -- what `run` promises, whatever is passed: the answer and the two lists at exit
 abbrev pub RowRuns : (s : List ℕ) (room : ℕ) (cuts : List ℕ) (rows : List Row) → Answer → (cuts′ : List ℕ) (rows′ : List Row) → Type 0

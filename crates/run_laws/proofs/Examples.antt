@@ -13,7 +13,8 @@ use Rattle.sheets.specs.Holding.{columnSaid, changeSaid, stepSaid, taskIn, task
 use Rattle.blocks.specs.Blocks as blocks
 use Rattle.distances.specs.Distances as distances
 use Rattle.run.specs.Run as run
-use Rattle.refining.specs.Listing as listing
+use Rattle.blocks.specs.Flat as flat
+use Rattle.run.specs.Listing as listing
 use Rattle.sheet_laws.proofs.Examples.{rethread, plain, goal0}
 use Rattle.running.specs.declared.Answer.the-variants.{Plan, NoPlan, Open, Refused}
 use Rattle.running.specs.Running as running
@@ -78,7 +79,7 @@ pub answered-examples : map answer asked
     ∷ outcome (Refused 8) (sevens 12) (sevens 11)
     ∷ outcome (Refused 8) [] (sevens 3)
     ∷ []
-unfolding answer asked sevens running.running running.runChecks running.roomChecks running.made running.told listing.listed listing.cutPlace listing.rowPlace
+unfolding answer asked sevens running.running running.runChecks running.roomChecks running.made running.told listing.listed flat.cutPlace listing.rowPlace
     sheet.sheetChecks sheet.entries sheet.fieldsPart sheet.headerPart sheet.columnPart sheet.marksPart sheet.stepPart sheet.fillPart sheet.modelBits sheet.columnOn sheet.costOn sheet.marksOn
     sheet.sheetWith sheet.ofSheet judging.outside judging.checksOf judging._then_ judging.refusal judging.judged judging.each packing.bytesFor bits.bitAt bits.fieldAt
     columnSaid changeSaid stepSaid taskIn taskOn marked loops.all loops.first loops.tab loops.over

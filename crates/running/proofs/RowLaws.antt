@@ -13,8 +13,8 @@ use Rattle.task.proofs.LoopLaws.{tab-length, tab-at}
 use Rattle.fields.specs.Places.{puts}
 use Rattle.fields.proofs.PlaceLaws.{puts-over}
 use Rattle.run.specs.Run.{rows}
-use Rattle.walk.specs.Walking.{stepIn}
-use Rattle.refining.specs.Listing.{listed, rowPlace, pathSteps}
+use Rattle.walk.specs.Walking.{stepIn, pathSteps}
+use Rattle.run.specs.Listing.{listed, rowPlace}
 use Rattle.refining.proofs.CutListLaws.{listed-three}
 use Rattle.running.specs.Running.{Costed}
 

@@ -23,10 +23,10 @@ use Rattle.sheet_laws.proofs.Given.{read-code, given-task, given-accepted}
 use Rattle.run.specs.Run as run
 use Rattle.run.specs.Run.{plan, refine, rows, rowsOf}
 use Rattle.run.proofs.LengthLaws.{plan-short}
-use Rattle.walk.specs.Walking.{stepIn}
+use Rattle.walk.specs.Walking.{stepIn, pathSteps}
 use Rattle.refining.specs.declared.Ended.{Ended}
 use Rattle.refining.specs.declared.Ended.the-variants as ended
-use Rattle.refining.specs.Listing.{listed, rowPlace, pathSteps}
+use Rattle.run.specs.Listing.{listed, rowPlace}
 use Rattle.refining.specs.Refining.{answerOf, blocksTold, KnownEnd, StepsFit, RunEnds}
 use Rattle.running.specs.declared.Answer.{Answer}
 use Rattle.running.specs.declared.Answer.the-variants.{Plan, Refused}

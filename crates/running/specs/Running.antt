@@ -2,18 +2,18 @@
 use Prim.Native.Nat.{ℕ, _-_, _*_, _<_}
 use mathlib.Core.Path.{_≡_}
 use mathlib.Core.List.{List, [], _∷_, _++_}
-use lib.Dec.{eqb}
 use lib.ListN.{length, getD}
 use Rattle.task.specs.Loops.{over}
 use Rattle.task.specs.Sizes.{limits}
 use Rattle.task.specs.Task.{Task, costOf, costs}
-use Rattle.fields.specs.Judging.{Check, check, outside, pick, refusal}
+use Rattle.fields.specs.Judging.{Check, check, outside, refusal, unlessRefused}
 use Rattle.sheets.specs.ModelSheet.{sheetChecks}
 use Rattle.sheets.specs.Holding.{taskOn}
 use Rattle.sheets.specs.LentTables.{tooFew}
 use Rattle.run.specs.Run as run
 use Rattle.run.specs.Run.{plan, noPlan, «open», blockCount, rowsOf}
-use Rattle.refining.specs.Listing.{listed, cutPlace, rowPlace}
+use Rattle.blocks.specs.Flat.{cutPlace}
+use Rattle.run.specs.Listing.{listed, rowPlace}
 use Rattle.refining.specs.declared.Ended.{Ended}
 use Rattle.refining.specs.declared.Ended.the-variants as ended
 use Rattle.walk.specs.Walking.{stepIn}
@@ -60,8 +60,7 @@ made t o cuts rows = outcome (told t (blockCount o) (o .answer)) (over (listed c
 -- a refusal returns only its number and changes nothing lent
 unfoldable pub running : List ℕ → ℕ → List ℕ → List ℕ → Outcome
 running s room cuts rows =
-    let n = refusal (runChecks s room cuts rows) in
-    pick (eqb n 0) (made (taskOn s) (run.run (taskOn s) room) cuts rows) (outcome (Refused n) cuts rows)
+    unlessRefused (refusal (runChecks s room cuts rows)) (made (taskOn s) (run.run (taskOn s) room) cuts rows) (λ n. outcome (Refused n) cuts rows)
 
 -- what `run` promises, whatever is passed: the answer and the two lists at exit
 abbrev pub Runs : (s : List ℕ) (room : ℕ) (cuts rows : List ℕ) → Answer → (cuts′ rows′ : List ℕ) → Type 0

@@ -7,12 +7,15 @@ ghost use Rattle.task.specs.Sizes.{limits};
 ghost use Rattle.task.specs.Task.{Task, costs};
 ghost use Rattle.fields.specs.Judging.{refusal};
 ghost use Rattle.run.specs.Run.{rows, rowsOf};
-ghost use Rattle.refining.specs.Listing.{listed, rowPlace, pathSteps};
+ghost use Rattle.run.specs.Listing.{listed, rowPlace};
+ghost use Rattle.walk.specs.Walking.{pathSteps};
 ghost use Rattle.refining.specs.Refining.{answerOf, blocksTold, KnownEnd, StepsFit};
 ghost use Rattle.running.specs.Running.{Costed, PathCosts, roomChecks, told, Runs};
 use refining::Ended;
 use refining::refine;
+use task::Costs;
 use task::Model;
+use task::Path;
 use task::tenths;
 use unpack::unpack_model;
 
@@ -55,12 +58,7 @@ fn judge_room(room: u32, cuts: &[u32], rows: &[u32]) -> u8
 }
 
 // Puts the rows of a path into a list, from the last to the first, and returns the cost of the path.
-fn fill_rows(
-    count: usize,
-    path: &[u8; Model::BLOCKS],
-    cost: &[u16; Model::STEPS],
-    list: &mut [u32],
-) -> u32
+fn fill_rows(count: usize, path: &Path, cost: &Costs, list: &mut [u32]) -> u32
     requires { ⌜ (count < limits .blocks) × (count * 3 ≤ length (now list)) × ((i : ℕ) → i < count → getD (now path) i 0 < limits .steps) ⌝ }
     ensures { λ r. ⌜ ((t : Task) → Costed t count (now (path .entry)) (now (cost .entry)) → (r ≡ costs t (pathSteps count (now (path .entry)))) × (now (list .exit) ≡ over (listed rowPlace (rows t (pathSteps count (now (path .entry))))) (now (list .entry)))) ⌝ }
 {
@@ -80,12 +78,7 @@ fn fill_rows(
 }
 
 // What a run that has ended answers, with the rows of its plan put into the list.
-fn tell(
-    ended: Ended,
-    path: &[u8; Model::BLOCKS],
-    cost: &[u16; Model::STEPS],
-    list: &mut [u32],
-) -> Answer
+fn tell(ended: Ended, path: &Path, cost: &Costs, list: &mut [u32]) -> Answer
     requires { ⌜ KnownEnd (limits .steps) ended (now path) × StepsFit ended (length (now list)) ⌝ }
     ensures { λ r. ⌜ ((t : Task) → PathCosts t ended (now (path .entry)) (now (cost .entry)) → (r ≡ told t (blocksTold ended) (answerOf ended (now (path .entry)))) × (now (list .exit) ≡ over (listed rowPlace (rowsOf t (answerOf ended (now (path .entry))))) (now (list .entry)))) ⌝ }
 {

@@ -22,7 +22,11 @@ use arcs::fits_in;
 use arcs::has_bit;
 use arcs::kept_word;
 use task::Block;
+use task::BlockSets;
+use task::ColumnSets;
+use task::Distances;
 use task::Model;
+use task::StepSets;
 
 const NO_WAY: u64 = Model::NO_WAY as u64 * 65536;
 
@@ -33,13 +37,7 @@ fn first_value(goal: bool) -> u64
 }
 
 // The values before the first turn.
-fn start(
-    columns: usize,
-    count: usize,
-    goals: &[u32; Model::COLUMNS],
-    sets: &[u32; Model::BLOCKS * Model::COLUMNS],
-    dist: &mut [u64; Model::BLOCKS],
-)
+fn start(columns: usize, count: usize, goals: &ColumnSets, sets: &BlockSets, dist: &mut Distances)
     requires { ⌜ (columns ≤ limits .columns) × (count ≤ limits .blocks) × (length (now dist) ≡ limits .blocks) ⌝ }
     ensures { λ _. ⌜ Started (goalBy columns (now (goals .entry)) (now (sets .entry))) count (now (dist .entry)) (now (dist .exit)) ⌝ ∗ ⌜ length (now (dist .exit)) ≡ limits .blocks ⌝ }
 {
@@ -51,7 +49,7 @@ fn start(
 }
 
 // The nearest block that is not settled, or count where none has a value.
-fn nearest(count: usize, dist: &[u64; Model::BLOCKS], done: &[u8; Model::BLOCKS]) -> usize
+fn nearest(count: usize, dist: &Distances, done: &[u8; Model::BLOCKS]) -> usize
     requires { ⌜ count ≤ limits .blocks ⌝ }
     ensures { λ r. ⌜ Picked count (now (dist .entry)) (now (done .entry)) r ⌝ }
 {
@@ -79,7 +77,7 @@ pub fn weigh(cost: u16) -> u64
 }
 
 // Gives the value k to each block of a mask of word w that has a greater one.
-fn lower_word(w: usize, v: u32, k: u64, dist: &mut [u64; Model::BLOCKS])
+fn lower_word(w: usize, v: u32, k: u64, dist: &mut Distances)
     requires { ⌜ (w < words) × (length (now dist) ≡ limits .blocks) ⌝ }
     ensures { λ _. ⌜ Lowered (inWord w v) k (w * word + word) (now (dist .entry)) (now (dist .exit)) ⌝ ∗ ⌜ length (now (dist .exit)) ≡ limits .blocks ⌝ }
 {
@@ -105,11 +103,11 @@ fn sweep(
     s: usize,
     k: u64,
     narrow: &[usize; Model::COLUMNS],
-    lands: &[u32; Model::STEPS * Model::COLUMNS],
+    lands: &StepSets,
     able: &[u32; WORDS * Model::STEPS],
     meets: &[u32; Model::COLUMNS * WORDS],
     left: &[u32; WORDS],
-    dist: &mut [u64; Model::BLOCKS],
+    dist: &mut Distances,
 )
     requires { ⌜ (few ≤ limits .columns) × (used ≤ words) × (s < limits .steps) × (length (now dist) ≡ limits .blocks) ⌝ ∗ ⌜ Listed few (now narrow) ⌝ }
     ensures { λ _. ⌜ Lowered (told few (now (narrow .entry)) (now (lands .entry)) (now (able .entry)) (now (meets .entry)) (now (left .entry)) s) k (used * word) (now (dist .entry)) (now (dist .exit)) ⌝ ∗ ⌜ length (now (dist .exit)) ≡ limits .blocks ⌝ }
@@ -132,12 +130,12 @@ fn lower(
     b: usize,
     k: u64,
     narrow: &[usize; Model::COLUMNS],
-    lands: &[u32; Model::STEPS * Model::COLUMNS],
-    sets: &[u32; Model::BLOCKS * Model::COLUMNS],
+    lands: &StepSets,
+    sets: &BlockSets,
     able: &[u32; WORDS * Model::STEPS],
     meets: &[u32; Model::COLUMNS * WORDS],
     left: &[u32; WORDS],
-    dist: &mut [u64; Model::BLOCKS],
+    dist: &mut Distances,
 )
     requires { ⌜ (columns ≤ limits .columns) × (few ≤ limits .columns) × (used ≤ words) × (s < limits .steps) × (b < limits .blocks) × (length (now dist) ≡ limits .blocks) ⌝ ∗ ⌜ Listed few (now narrow) ⌝ }
     ensures { λ _. ⌜ Lowered (toldIn columns few (now (narrow .entry)) (now (lands .entry)) (now (sets .entry)) (now (able .entry)) (now (meets .entry)) (now (left .entry)) s b) k (used * word) (now (dist .entry)) (now (dist .exit)) ⌝ ∗ ⌜ length (now (dist .exit)) ≡ limits .blocks ⌝ }
@@ -156,15 +154,15 @@ fn tries(
     few: usize,
     used: usize,
     b: usize,
-    needs: &[u32; Model::STEPS * Model::COLUMNS],
-    lands: &[u32; Model::STEPS * Model::COLUMNS],
+    needs: &StepSets,
+    lands: &StepSets,
     costs: &[u16],
-    sets: &[u32; Model::BLOCKS * Model::COLUMNS],
+    sets: &BlockSets,
     able: &[u32; WORDS * Model::STEPS],
     meets: &[u32; Model::COLUMNS * WORDS],
     left: &[u32; WORDS],
     narrow: &[usize; Model::COLUMNS],
-    dist: &mut [u64; Model::BLOCKS],
+    dist: &mut Distances,
 )
     requires { ⌜ (columns ≤ limits .columns) × (count ≤ limits .blocks) × (steps ≤ limits .steps) × (used ≡ wordsFor count) × (steps ≤ length (now costs)) × (b < count) × (length (now dist) ≡ limits .blocks) × (getD (now dist) b 0 < noWay) ⌝ ∗ ⌜ Able columns steps (now needs) (now sets) used (now able) ⌝ ∗ ⌜ Met columns used (now sets) (past (now sets) (rowOf b)) (now meets) ⌝ ∗ ⌜ Open count used (now dist) b (now left) ⌝ ∗ ⌜ Narrow columns used (now meets) (now left) few (now narrow) ⌝ }
     ensures { λ _. ⌜ Relaxed count (Arc columns count steps (now (needs .entry)) (now (lands .entry)) (now (sets .entry))) (costIn (now (costs .entry))) (now (dist .entry)) (now (dist .exit)) b ⌝ ∗ ⌜ length (now (dist .exit)) ≡ limits .blocks ⌝ }
@@ -199,17 +197,17 @@ fn relax(
     steps: usize,
     used: usize,
     b: usize,
-    needs: &[u32; Model::STEPS * Model::COLUMNS],
-    lands: &[u32; Model::STEPS * Model::COLUMNS],
+    needs: &StepSets,
+    lands: &StepSets,
     costs: &[u16],
-    sets: &[u32; Model::BLOCKS * Model::COLUMNS],
+    sets: &BlockSets,
     able: &[u32; WORDS * Model::STEPS],
     done: &[u8; Model::BLOCKS],
-    held: &mut [u32; Model::COLUMNS],
+    held: &mut ColumnSets,
     meets: &mut [u32; Model::COLUMNS * WORDS],
     left: &mut [u32; WORDS],
     narrow: &mut [usize; Model::COLUMNS],
-    dist: &mut [u64; Model::BLOCKS],
+    dist: &mut Distances,
 )
     requires { ⌜ (columns ≤ limits .columns) × (count ≤ limits .blocks) × (steps ≤ limits .steps) × (used ≡ wordsFor count) × (steps ≤ length (now costs)) × (b < count) × (length (now dist) ≡ limits .blocks) × (getD (now dist) b 0 < noWay) × (length (now held) ≡ limits .columns) × (length (now meets) ≡ limits .columns * words) × (length (now left) ≡ words) × (length (now narrow) ≡ limits .columns) ⌝ ∗ ⌜ Able columns steps (now needs) (now sets) used (now able) ⌝ ∗ ⌜ Met columns used (now sets) (heldIn (now held)) (now meets) ⌝ ∗ ⌜ Settled count (now dist) (now done) b ⌝ }
     ensures { λ _. ⌜ Relaxed count (Arc columns count steps (now (needs .entry)) (now (lands .entry)) (now (sets .entry))) (costIn (now (costs .entry))) (now (dist .entry)) (now (dist .exit)) b ⌝ ∗ ⌜ Met columns used (now (sets .entry)) (heldIn (now (held .exit))) (now (meets .exit)) ⌝ ∗ ⌜ (length (now (dist .exit)) ≡ limits .blocks) × (length (now (held .exit)) ≡ limits .columns) × (length (now (meets .exit)) ≡ limits .columns * words) × (length (now (left .exit)) ≡ words) × (length (now (narrow .exit)) ≡ limits .columns) ⌝ }
@@ -242,18 +240,18 @@ fn settle(
     count: usize,
     steps: usize,
     used: usize,
-    needs: &[u32; Model::STEPS * Model::COLUMNS],
-    lands: &[u32; Model::STEPS * Model::COLUMNS],
-    goals: &[u32; Model::COLUMNS],
+    needs: &StepSets,
+    lands: &StepSets,
+    goals: &ColumnSets,
     costs: &[u16],
-    sets: &[u32; Model::BLOCKS * Model::COLUMNS],
+    sets: &BlockSets,
     able: &[u32; WORDS * Model::STEPS],
-    held: &mut [u32; Model::COLUMNS],
+    held: &mut ColumnSets,
     meets: &mut [u32; Model::COLUMNS * WORDS],
     left: &mut [u32; WORDS],
     narrow: &mut [usize; Model::COLUMNS],
     done: &mut [u8; Model::BLOCKS],
-    dist: &mut [u64; Model::BLOCKS],
+    dist: &mut Distances,
 )
     requires { ⌜ (columns ≤ limits .columns) × (count ≤ limits .blocks) × (steps ≤ limits .steps) × (used ≡ wordsFor count) × (steps ≤ length (now costs)) × (length (now dist) ≡ limits .blocks) × (length (now held) ≡ limits .columns) × (length (now meets) ≡ limits .columns * words) × (length (now left) ≡ words) × (length (now narrow) ≡ limits .columns) × (length (now done) ≡ limits .blocks) ⌝ ∗ ⌜ Able columns steps (now needs) (now sets) used (now able) ⌝ ∗ ⌜ Met columns used (now sets) (heldIn (now held)) (now meets) ⌝ ∗ ⌜ Started (goalBy columns (now goals) (now sets)) count (now dist) (now dist) ⌝ ∗ ⌜ ((a : ℕ) → getD (now done) a 0 ≡ 0) ⌝ }
     ensures { λ _. ⌜ AllDist (Arc columns count steps (now (needs .entry)) (now (lands .entry)) (now (sets .entry))) (GoalIn columns (now (goals .entry)) (now (sets .entry))) (costIn (now (costs .entry))) count (now (dist .entry)) (now (dist .exit)) ⌝ ∗ ⌜ length (now (dist .exit)) ≡ limits .blocks ⌝ }
@@ -290,12 +288,12 @@ pub fn fill_distances(
     columns: usize,
     steps: usize,
     count: usize,
-    needs: &[u32; Model::STEPS * Model::COLUMNS],
-    lands: &[u32; Model::STEPS * Model::COLUMNS],
-    goals: &[u32; Model::COLUMNS],
+    needs: &StepSets,
+    lands: &StepSets,
+    goals: &ColumnSets,
     costs: &[u16],
-    sets: &[u32; Model::BLOCKS * Model::COLUMNS],
-    dist: &mut [u64; Model::BLOCKS],
+    sets: &BlockSets,
+    dist: &mut Distances,
 )
     requires { ⌜ (columns ≤ limits .columns) × (steps ≤ limits .steps) × (steps ≤ length (now costs)) × (count ≤ limits .blocks) × (length (now dist) ≡ limits .blocks) ⌝ }
     ensures { λ _. ⌜ ((t : Task) → Tables t columns steps (now (needs .entry)) (now (lands .entry)) (now (goals .entry)) (now (costs .entry)) → now (dist .exit) ≡ codedOver t (blocksIn columns count (now (sets .entry))) count (now (dist .entry))) ⌝ ∗ ⌜ length (now (dist .exit)) ≡ limits .blocks ⌝ }

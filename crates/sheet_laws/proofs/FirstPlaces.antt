@@ -6,12 +6,13 @@ use native.Mathlib.Nat.{suc-mul, mul-le-mul, le-refl}
 use native.Mathlib.Omega.{arith}
 use native.Mathlib.Decide.{decLt}
 use mathlib.Core.Path.{_≡_, refl, sym, ap, _∙_}
+use mathlib.Core.Bool.{cond}
 use mathlib.Core.List.{List, [], _∷_, _++_}
 use lib.Dec.{eqb}
 use lib.ListN.{length, take}
 use lib.Seq.{length-take-le, take-all, getD-take}
 use Rattle.task.specs.Loops.{over}
-use Rattle.fields.specs.Judging.{Entry, inTable, checksOf, pick, refusal}
+use Rattle.fields.specs.Judging.{Entry, inTable, checksOf, refusal}
 use Rattle.fields.specs.Packing.{sheetOf}
 use Rattle.fields.proofs.JudgingLaws.{place-here}
 use Rattle.sheets.specs.ModelSheet.{Source, entries, modelBytes}
@@ -70,4 +71,4 @@ module _ (n m : ℕ) (f f′ c c′ k k′ : List ℕ) (frames : take (n * 3) f 
   first-places sheet =
       ap (λ (es : List Entry).
       let r = refusal (checksOf es ++ (tooFew (modelBytes n m) sheet ∷ [])) in
-      pick (eqb r 0) (outcome (Sheet (modelBytes n m)) (over (sheetOf es) sheet)) (outcome (Refused r) sheet)) same-entries
+      cond (eqb r 0) (outcome (Sheet (modelBytes n m)) (over (sheetOf es) sheet)) (outcome (Refused r) sheet)) same-entries

@@ -1,5 +1,6 @@
 -- Which task a sheet holds, and its model by value.
 use Prim.Native.Nat.{ℕ, _*_, _/_, _%_}
+use mathlib.Core.Bool.{cond}
 use mathlib.Core.List.{List}
 use lib.ListN.{replicate}
 use lib.Dec.{ltb}
@@ -9,7 +10,7 @@ use Rattle.task.specs.Loops.{tab, over}
 use Rattle.task.specs.Sizes.{limits}
 use Rattle.task.specs.Task.{Task, ColumnEntry, Change, StepEntry, position}
 use Rattle.task.specs.Tables.{mark, marked}
-use Rattle.fields.specs.Judging.{Field, pick}
+use Rattle.fields.specs.Judging.{Field}
 use Rattle.sheets.specs.ModelSheet.{ColumnFields, MarkFields, Source, columnsIn, stepsIn, ofSheet}
 
 -- ---- the task that the fields say
@@ -31,7 +32,7 @@ unused places a = replicate places a
 
 -- place k of a table of marks: the mark of step k / 16 at column k % 16, or none past the n columns
 unfoldable pub markPlace : (ℕ → ℕ → ℕ) → ℕ → ℕ → Mark
-markPlace f n k = pick (ltb (k % limits .columns) n) (mark (f (k / limits .columns) (k % limits .columns))) (mark 0)
+markPlace f n k = cond (ltb (k % limits .columns) n) (mark (f (k / limits .columns) (k % limits .columns))) (mark 0)
 
 unfoldable pub markTable : (ℕ → ℕ → ℕ) → ℕ → ℕ → List Mark
 markTable f n m = over (tab (m * limits .columns) (markPlace f n)) (unused (limits .steps * limits .columns) (mark 0))

@@ -15,7 +15,7 @@ use Rattle.task.specs.Task.{column}
 use Rattle.blocks.specs.Blocks.{common, isEmpty}
 use Rattle.blocks.proofs.FlatLaws.{over-set}
 use Rattle.settling.proofs.JoinLaws.{over-past}
-use Rattle.trace.proofs.HopLaws.{first-here}
+use Rattle.task.proofs.LoopLaws.{first-here}
 use Rattle.standing.specs.Standing.{landed, isOff, offAt, lowestOff}
 
 -- the search for the lowest column, turn by turn

@@ -16,7 +16,7 @@ use Rattle.task.specs.declared.Step.{Step}
 use Rattle.task.specs.declared.Block.{Block}
 use Rattle.task.specs.Loops.{when}
 use Rattle.task.specs.Task.{Task, State, column, position, at, columnCount, stepCount, sizeOf, needAt, effectAt, goalAt, meets, changed, isState, eachColumn, canTake, taken, isGoal}
-use Rattle.task.proofs.LoopLaws.{true-or-false, all-ext, tab-at, over-at}
+use Rattle.task.proofs.LoopLaws.{true-or-false, all-ext, tab-at, over-at, first-ext}
 use Rattle.task.proofs.TaskLaws.{column-passes, per-at, position-below, taken-at}
 use Rattle.blocks.specs.Blocks.{PositionSet, holds, only, common, isEmpty, setAt, blockAt, goalIn, inBlock}
 use Rattle.blocks.specs.Flat.{past, rowOf, blocksIn}
@@ -27,7 +27,6 @@ use Rattle.blocks.proofs.FlatLaws.{past-start, blocks-length, block-at, set-at}
 use Rattle.blocks.proofs.MaskLaws.{none-empty, only-some, lies-goal}
 use Rattle.run.specs.Run.{Wanted, wantedAt, allowed, backAt, goalWanted, needWanted, backWanted, cutColumn, cutFor}
 use Rattle.run.proofs.FlawLaws.{Flaw, cut-column}
-use Rattle.trace.proofs.HopLaws.{first-ext}
 use Rattle.standing.specs.Standing.{Stands, landed, backSet, isOff, takesBy, goalAtEnd, landedAt, landsBy, takenBy, needRow, backRow, offAt, lowestOff, cutBy}
 use Rattle.standing.specs.Standing as standing
 

@@ -11,11 +11,14 @@ ghost use Rattle.standing.specs.Standing.{landed, backSet, isOff, takesB
 use blocks::Cut;
 use masks::all_lie;
 use task::Block;
+use task::BlockSets;
 use task::Column;
+use task::ColumnSets;
 use task::Model;
 use task::Position;
 use task::State;
 use task::Step;
+use task::StepSets;
 
 // The set of one position.
 fn alone(position: Position) -> u32
@@ -27,7 +30,7 @@ fn alone(position: Position) -> u32
 }
 
 // A state as sets of one position each.
-pub fn stand(columns: usize, state: State, here: &mut [u32; Model::COLUMNS])
+pub fn stand(columns: usize, state: State, here: &mut ColumnSets)
     requires { ⌜ (columns ≤ limits .columns) × (length (now here) ≡ limits .columns) ×
         ((j : ℕ) → j < columns → getD state j (position 0) .0 < limits .positions) ⌝ }
     ensures { λ _. ⌜ now (here .exit) ≡ over (tab columns (λ j. only (getD state j (position 0)))) (now (here .entry)) ⌝ }
@@ -73,12 +76,7 @@ fn is_off(wanted: u32, here: u32) -> bool
 }
 
 // Whether the step can be taken in the state.
-pub fn can_take(
-    columns: usize,
-    s: Step,
-    needs: &[u32; Model::STEPS * Model::COLUMNS],
-    here: &[u32; Model::COLUMNS],
-) -> bool
+pub fn can_take(columns: usize, s: Step, needs: &StepSets, here: &ColumnSets) -> bool
     requires { ⌜ (columns ≤ limits .columns) × (s .0 < limits .steps) ⌝ }
     ensures { λ r. ⌜ r ≡ takesBy columns (now (needs .entry)) (now (here .entry)) (s .0) ⌝ }
 {
@@ -91,9 +89,9 @@ pub fn lands_in(
     columns: usize,
     s: Step,
     b: Block,
-    lands: &[u32; Model::STEPS * Model::COLUMNS],
-    sets: &[u32; Model::BLOCKS * Model::COLUMNS],
-    here: &[u32; Model::COLUMNS],
+    lands: &StepSets,
+    sets: &BlockSets,
+    here: &ColumnSets,
 ) -> bool
     requires { ⌜ (columns ≤ limits .columns) × (s .0 < limits .steps) × (b .0 < limits .blocks) ⌝ }
     ensures { λ r. ⌜ r ≡ landsBy columns (now (lands .entry)) (now (sets .entry)) (now (here .entry)) (s .0) (b .0) ⌝ }
@@ -111,12 +109,7 @@ pub fn lands_in(
 }
 
 // Takes the step. Places past the columns stay as they are.
-pub fn take(
-    columns: usize,
-    s: Step,
-    lands: &[u32; Model::STEPS * Model::COLUMNS],
-    here: &mut [u32; Model::COLUMNS],
-)
+pub fn take(columns: usize, s: Step, lands: &StepSets, here: &mut ColumnSets)
     requires { ⌜ (columns ≤ limits .columns) × (s .0 < limits .steps) × (length (now here) ≡ limits .columns) ⌝ }
     ensures { λ _. ⌜ now (here .exit) ≡ takenBy columns (now (lands .entry)) (now (here .entry)) (s .0) ⌝ ∗ ⌜ length (now (here .exit)) ≡ limits .columns ⌝ }
 {
@@ -129,7 +122,7 @@ pub fn take(
 }
 
 // Whether the state is a goal state.
-pub fn is_goal(columns: usize, goals: &[u32; Model::COLUMNS], here: &[u32; Model::COLUMNS]) -> bool
+pub fn is_goal(columns: usize, goals: &ColumnSets, here: &ColumnSets) -> bool
     requires { ⌜ columns ≤ limits .columns ⌝ }
     ensures { λ r. ⌜ r ≡ goalAtEnd columns (now (goals .entry)) (now (here .entry)) ⌝ }
 {
@@ -137,11 +130,7 @@ pub fn is_goal(columns: usize, goals: &[u32; Model::COLUMNS], here: &[u32; Model
 }
 
 // The wanted sets of a need flaw: the step's needs.
-fn fill_need_wanted(
-    s: Step,
-    needs: &[u32; Model::STEPS * Model::COLUMNS],
-    wanted: &mut [u32; Model::COLUMNS],
-)
+fn fill_need_wanted(s: Step, needs: &StepSets, wanted: &mut ColumnSets)
     requires { ⌜ (s .0 < limits .steps) × (length (now wanted) ≡ limits .columns) ⌝ }
     ensures { λ _. ⌜ now (wanted .exit) ≡ needRow (now (needs .entry)) (s .0) ⌝ }
 {
@@ -157,10 +146,10 @@ fn fill_need_wanted(
 fn fill_back_wanted(
     s: Step,
     b: Block,
-    needs: &[u32; Model::STEPS * Model::COLUMNS],
-    lands: &[u32; Model::STEPS * Model::COLUMNS],
-    sets: &[u32; Model::BLOCKS * Model::COLUMNS],
-    wanted: &mut [u32; Model::COLUMNS],
+    needs: &StepSets,
+    lands: &StepSets,
+    sets: &BlockSets,
+    wanted: &mut ColumnSets,
 )
     requires { ⌜ (s .0 < limits .steps) × (b .0 < limits .blocks) × (length (now wanted) ≡ limits .columns) ⌝ }
     ensures { λ _. ⌜ now (wanted .exit) ≡ backRow (now (needs .entry)) (now (lands .entry)) (now (sets .entry)) (s .0) (b .0) ⌝ }
@@ -175,11 +164,7 @@ fn fill_back_wanted(
 }
 
 // The lowest column whose present position isn't wanted.
-fn lowest_off(
-    columns: usize,
-    wanted: &[u32; Model::COLUMNS],
-    here: &[u32; Model::COLUMNS],
-) -> Column
+fn lowest_off(columns: usize, wanted: &ColumnSets, here: &ColumnSets) -> Column
     requires { ⌜ columns ≤ limits .columns ⌝ }
     ensures { λ r. ⌜ (r ≡ lowestOff columns (now (wanted .entry)) (now (here .entry))) × (r .0 < limits .columns) ⌝ }
 {
@@ -197,9 +182,9 @@ fn lowest_off(
 pub fn cut_for(
     columns: usize,
     a: Block,
-    wanted: &[u32; Model::COLUMNS],
-    sets: &[u32; Model::BLOCKS * Model::COLUMNS],
-    here: &[u32; Model::COLUMNS],
+    wanted: &ColumnSets,
+    sets: &BlockSets,
+    here: &ColumnSets,
 ) -> Cut
     requires { ⌜ (columns ≤ limits .columns) × (a .0 < limits .blocks) ⌝ }
     ensures { λ r. ⌜ r ≡ cutBy columns (now (sets .entry)) (now (here .entry)) a (now (wanted .entry)) ⌝ }
@@ -219,9 +204,9 @@ pub fn need_cut(
     columns: usize,
     a: Block,
     s: Step,
-    needs: &[u32; Model::STEPS * Model::COLUMNS],
-    sets: &[u32; Model::BLOCKS * Model::COLUMNS],
-    here: &[u32; Model::COLUMNS],
+    needs: &StepSets,
+    sets: &BlockSets,
+    here: &ColumnSets,
 ) -> Cut
     requires { ⌜ (columns ≤ limits .columns) × (a .0 < limits .blocks) × (s .0 < limits .steps) ⌝ }
     ensures { λ r. ⌜ r ≡ cutBy columns (now (sets .entry)) (now (here .entry)) a (needRow (now (needs .entry)) (s .0)) ⌝ }
@@ -237,10 +222,10 @@ pub fn back_cut(
     a: Block,
     s: Step,
     b: Block,
-    needs: &[u32; Model::STEPS * Model::COLUMNS],
-    lands: &[u32; Model::STEPS * Model::COLUMNS],
-    sets: &[u32; Model::BLOCKS * Model::COLUMNS],
-    here: &[u32; Model::COLUMNS],
+    needs: &StepSets,
+    lands: &StepSets,
+    sets: &BlockSets,
+    here: &ColumnSets,
 ) -> Cut
     requires { ⌜ (columns ≤ limits .columns) × (a .0 < limits .blocks) × (s .0 < limits .steps) × (b .0 < limits .blocks) ⌝ }
     ensures { λ r. ⌜ r ≡ cutBy columns (now (sets .entry)) (now (here .entry)) a (backRow (now (needs .entry)) (now (lands .entry)) (now (sets .entry)) (s .0) (b .0)) ⌝ }

@@ -81,7 +81,7 @@ pub record Found {A : Type 0} (n : ℕ) (f : ℕ → Option A) (a : A) : Type 0 
   pub here : f place ≡ some a
   pub before : (i : ℕ) → i < place → f i ≡ none
 
-or-none : {A : Type 0} (a b : Option A) → orElse a b ≡ none → (a ≡ none) × (b ≡ none)
+pub or-none : {A : Type 0} (a b : Option A) → orElse a b ≡ none → (a ≡ none) × (b ≡ none)
 or-none none b h = (refl, h)
 or-none (some x) b h = let z : _≡_ {A = ℕ} 0 1 = cc in absurd (omega arith)
 
@@ -110,6 +110,32 @@ first-found n f j {a} h e = go (first n f) refl
     go : (o : Option _) → first n f ≡ o → (b : _) × (first n f ≡ some b)
     go (some b) q = (b, q)
     go none q = let p = first-none n f q j h in let z : _≡_ {A = ℕ} 0 1 = cc in absurd (omega arith)
+
+-- ---- what is found first, turn by turn
+module _ {A : Type 0} (f : ℕ → Option A) where
+  pub first-nothing : first 0 f ≡ none
+  unfolding first
+  first-nothing = refl
+
+  pub first-more : (n : ℕ) → first n f ≡ none → f n ≡ none → first (n + 1) f ≡ none
+  unfolding first
+  first-more n h k = rw (add-one, h, k)
+
+  pub first-here : (n i : ℕ) {x : A} → i < n → first i f ≡ none → f i ≡ some x → first n f ≡ some x
+  unfolding first
+  first-here zero i l h k = absurd (not-suc-le-zero l)
+  first-here (suc n) i l h k =
+      ⊎-elim (λ (e : i ≡ n). rw (← e, h, k)) (λ (b : i < n). rw (first-here n i b h k)) (below-suc l)
+
+pub first-ext : {A : Type 0} (n : ℕ) (f g : ℕ → Option A) → ((i : ℕ) → i < n → f i ≡ g i) → first n f ≡ first n g
+unfolding first
+first-ext zero f g e = refl
+first-ext (suc n) f g e = rw (first-ext n f g (λ i h. e i (omega arith)), e n (omega arith))
+
+pub first-empty : {A : Type 0} (n : ℕ) (f : ℕ → Option A) → ((i : ℕ) → i < n → f i ≡ none) → first n f ≡ none
+unfolding first
+first-empty zero f e = refl
+first-empty (suc n) f e = rw (first-empty n f (λ i h. e i (omega arith)), e n (omega arith))
 
 pub when-some : {A : Type 0} (b : Bool) (x : A) {y : A} → when b x ≡ some y → (b ≡ true) × (x ≡ y)
 when-some true x h = (refl, cc)

@@ -38,7 +38,7 @@ pub struct Model {
     pub size: [u8; Model::COLUMNS],
     pub start: [Position; Model::COLUMNS],
     pub goal: [Mark; Model::COLUMNS],
-    pub cost: [u16; Model::STEPS],
+    pub cost: Costs,
     pub need: [Mark; Model::STEPS * Model::COLUMNS],
     pub effect: [Mark; Model::STEPS * Model::COLUMNS],
 }
@@ -48,6 +48,23 @@ pub type State = [Position; Model::COLUMNS];
 
 // A list of steps, as long as any plan's.
 pub type Steps = [Step; Model::BLOCKS - 1];
+
+// A set of positions for each column: a goal, a state as it stands, what is wanted of one.
+pub type ColumnSets = [u32; Model::COLUMNS];
+
+// The same for each step, and for each block.
+pub type StepSets = [u32; Model::STEPS * Model::COLUMNS];
+
+pub type BlockSets = [u32; Model::BLOCKS * Model::COLUMNS];
+
+// What each step costs.
+pub type Costs = [u16; Model::STEPS];
+
+// The distance of each block, as one number: its cost in units of Model::TENTH, and its steps.
+pub type Distances = [u64; Model::BLOCKS];
+
+// The numbers of the steps that a walk took.
+pub type Path = [u8; Model::BLOCKS];
 
 impl Model {
     pub const COLUMNS: usize = 16;
@@ -65,6 +82,9 @@ impl Model {
     pub const LOG: usize = 255;
 
     pub const NO_WAY: u32 = 16777215;
+
+    // A tenth in a distance that is one number: the steps are counted below it.
+    pub const TENTH: u64 = 65536;
 
     // The limits, for the definitions to be held to.
     pub fn limits() -> Limits

@@ -15,7 +15,7 @@ use Rattle.task.specs.declared.Step.{Step}
 use Rattle.task.specs.declared.Block.{Block}
 use Rattle.task.specs.Loops.{first, when}
 use Rattle.task.specs.Task.{Task, Accepted, step, block, costOf}
-use Rattle.task.proofs.LoopLaws.{and-left, true-or-false, below-suc, all-false, all-fails, first-some, when-some}
+use Rattle.task.proofs.LoopLaws.{and-left, true-or-false, below-suc, all-false, all-fails, first-some, when-some, first-empty, first-ext, first-here}
 use Rattle.blocks.specs.Blocks.{Blocks}
 use Rattle.blocks.specs.Flat.{blocksIn}
 use Rattle.blocks.specs.Masks.{allLie, passes, leadsBy}
@@ -30,32 +30,6 @@ use Rattle.settling.proofs.JoinLaws.{far-small}
 use Rattle.run.specs.Run.{keeps, nextHop}
 use Rattle.trace.specs.declared.Next.{Next}
 use Rattle.trace.specs.Hops.{keepsIn, fitsBy, mayTake, hop, nextIn, nextOf, nextBy, hopOf, Holds, NextIs}
-
--- ---- what is found first, turn by turn
-module _ {A : Type 0} (f : ℕ → Option A) where
-  pub first-nothing : first 0 f ≡ none
-  unfolding first
-  first-nothing = refl
-
-  pub first-more : (n : ℕ) → first n f ≡ none → f n ≡ none → first (n + 1) f ≡ none
-  unfolding first
-  first-more n h k = rw (add-one, h, k)
-
-  pub first-here : (n i : ℕ) {x : A} → i < n → first i f ≡ none → f i ≡ some x → first n f ≡ some x
-  unfolding first
-  first-here zero i l h k = absurd (not-suc-le-zero l)
-  first-here (suc n) i l h k =
-      ⊎-elim (λ (e : i ≡ n). rw (← e, h, k)) (λ (b : i < n). rw (first-here n i b h k)) (below-suc l)
-
-pub first-ext : {A : Type 0} (n : ℕ) (f g : ℕ → Option A) → ((i : ℕ) → i < n → f i ≡ g i) → first n f ≡ first n g
-unfolding first
-first-ext zero f g e = refl
-first-ext (suc n) f g e = rw (first-ext n f g (λ i h. e i (omega arith)), e n (omega arith))
-
-pub first-empty : {A : Type 0} (n : ℕ) (f : ℕ → Option A) → ((i : ℕ) → i < n → f i ≡ none) → first n f ≡ none
-unfolding first
-first-empty zero f e = refl
-first-empty (suc n) f e = rw (first-empty n f (λ i h. e i (omega arith)), e n (omega arith))
 
 -- the two loops
 module _ (fits : ℕ → ℕ → Bool) where

@@ -15,8 +15,10 @@ ghost use Rattle.trace.specs.Hops.{fitsBy, mayTake, nextBy, hopOf, Holds
 use arcs::fits_in;
 use settling::weigh;
 use task::Block;
-use task::Model;
+use task::BlockSets;
+use task::Distances;
 use task::Step;
+use task::StepSets;
 
 // The next hop of a trace: a step, and the block that it leads to.
 pub enum Next {
@@ -42,10 +44,10 @@ fn to_try(
     count: usize,
     a: usize,
     s: usize,
-    needs: &[u32; Model::STEPS * Model::COLUMNS],
+    needs: &StepSets,
     costs: &[u16],
-    sets: &[u32; Model::BLOCKS * Model::COLUMNS],
-    dist: &[u64; Model::BLOCKS],
+    sets: &BlockSets,
+    dist: &Distances,
 ) -> usize
     requires { ⌜ (columns ≤ limits .columns) × (a < limits .blocks) × (s < limits .steps) × (s < length (now costs)) ⌝ }
     ensures { λ r. ⌜ r ≡ cond (mayTake columns (now (needs .entry)) (now (costs .entry)) (now (sets .entry)) (now (dist .entry)) a s) count 0 ⌝ }
@@ -66,10 +68,10 @@ fn fits(
     s: usize,
     b: usize,
     rest: u64,
-    needs: &[u32; Model::STEPS * Model::COLUMNS],
-    lands: &[u32; Model::STEPS * Model::COLUMNS],
-    sets: &[u32; Model::BLOCKS * Model::COLUMNS],
-    dist: &[u64; Model::BLOCKS],
+    needs: &StepSets,
+    lands: &StepSets,
+    sets: &BlockSets,
+    dist: &Distances,
 ) -> bool
     requires { ⌜ (columns ≤ limits .columns) × (a < limits .blocks) × (s < limits .steps) × (b < limits .blocks) ⌝ }
     ensures { λ r. ⌜ r ≡ (eqb (getD (now (dist .entry)) b 0) rest && leadsBy columns (now (needs .entry)) (now (lands .entry)) (now (sets .entry)) s a b) ⌝ }
@@ -94,11 +96,11 @@ pub fn next_hop(
     steps: usize,
     count: usize,
     a: Block,
-    needs: &[u32; Model::STEPS * Model::COLUMNS],
-    lands: &[u32; Model::STEPS * Model::COLUMNS],
+    needs: &StepSets,
+    lands: &StepSets,
     costs: &[u16],
-    sets: &[u32; Model::BLOCKS * Model::COLUMNS],
-    dist: &[u64; Model::BLOCKS],
+    sets: &BlockSets,
+    dist: &Distances,
 ) -> Next
     requires { ⌜ (columns ≤ limits .columns) × (steps ≤ limits .steps) × (steps ≤ length (now costs)) × (count ≤ limits .blocks) × (a .0 < count) ⌝ }
     ensures { λ r. ⌜ hopOf r ≡ nextBy steps count (fitsBy columns (now (needs .entry)) (now (lands .entry)) (now (costs .entry)) (now (sets .entry)) (now (dist .entry)) (a .0)) ⌝ ∗ ⌜ ((t : Task) (goals : List ℕ) → Accepted t → Tables t columns steps (now (needs .entry)) (now (lands .entry)) goals (now (costs .entry)) → Holds (distances t (blocksIn columns count (now (sets .entry)))) count (now (dist .entry)) → NextIs t (blocksIn columns count (now (sets .entry))) a r) ⌝ }

@@ -1,14 +1,13 @@
 -- Reading a model sheet into the task's own tables, by value.
 use Prim.Native.Nat.{ℕ, _+_, _*_}
 use mathlib.Core.List.{List}
-use lib.Dec.{eqb}
 use Rattle.task.specs.declared.Model.{Model}
 use Rattle.task.specs.declared.Position.{Position}
 use Rattle.task.specs.declared.Mark.{Mark}
 use Rattle.task.specs.Task.{position}
 use Rattle.task.specs.Tables.{mark}
 use Rattle.fields.specs.Bits.{fieldAt}
-use Rattle.fields.specs.Judging.{pick}
+use Rattle.fields.specs.Judging.{unlessRefused}
 use Rattle.sheets.specs.ModelSheet.{modelBits, ofSheet, judgeSheet}
 use Rattle.sheets.specs.Holding.{modelOf, noModel}
 use Rattle.unpack.specs.declared.Read.{Read}
@@ -18,7 +17,7 @@ answer n m = record { code = n; model = m }
 
 -- the refusal, with a model of nothing, or 0 and the model of the sheet
 unfoldable pub unpacked : List ℕ → Read
-unpacked s = pick (eqb (judgeSheet s) 0) (answer 0 (modelOf (ofSheet s))) (answer (judgeSheet s) noModel)
+unpacked s = unlessRefused (judgeSheet s) (answer 0 (modelOf (ofSheet s))) (λ n. answer n noModel)
 
 -- ---- what the parts of the code put into each table
 unfoldable pub sizeOn : List ℕ → ℕ → ℕ

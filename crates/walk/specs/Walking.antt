@@ -74,6 +74,10 @@ module _ (columns steps count : ℕ) (needs lands goals costs sets dist : List �
 unfoldable pub stepIn : List ℕ → ℕ → Step
 stepIn path i = step (getD path i 0)
 
+-- the first n steps of a path
+unfoldable pub pathSteps : ℕ → List ℕ → List Step
+pathSteps n path = tab n (stepIn path)
+
 -- what was found, where the start's estimate is that cost
 unfoldable pub seen : Tenths → Found → List ℕ → Look
 seen cost (Plan n) path = planned (tab n (stepIn path))

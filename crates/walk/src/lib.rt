@@ -17,8 +17,12 @@ use standing::lands_in;
 use standing::need_cut;
 use standing::take;
 use task::Block;
-use task::Model;
+use task::BlockSets;
+use task::ColumnSets;
+use task::Distances;
+use task::Path;
 use task::Step;
+use task::StepSets;
 use trace::Next;
 
 // What a walk found: a plan of so many steps of the path, or the cut of a flaw.
@@ -40,12 +44,12 @@ fn hop(
     steps: usize,
     count: usize,
     a: Block,
-    needs: &[u32; Model::STEPS * Model::COLUMNS],
-    lands: &[u32; Model::STEPS * Model::COLUMNS],
+    needs: &StepSets,
+    lands: &StepSets,
     costs: &[u16],
-    sets: &[u32; Model::BLOCKS * Model::COLUMNS],
-    dist: &[u64; Model::BLOCKS],
-    here: &mut [u32; Model::COLUMNS],
+    sets: &BlockSets,
+    dist: &Distances,
+    here: &mut ColumnSets,
 ) -> Turn
     requires { ⌜ (columns ≤ limits .columns) × (steps ≤ limits .steps) × (steps ≤ length (now costs)) × (count ≤ limits .blocks) × (a .0 < count) × (length (now here) ≡ limits .columns) ⌝ }
     ensures { λ r. ⌜ r ≡ turnBy columns steps count (now (needs .entry)) (now (lands .entry)) (now (costs .entry)) (now (sets .entry)) (now (dist .entry)) a (now (here .entry)) ⌝ ∗ ⌜ now (here .exit) ≡ standsAfter columns (now (lands .entry)) (now (here .entry)) r ⌝ ∗ ⌜ length (now (here .exit)) ≡ limits .columns ⌝ }
@@ -69,9 +73,9 @@ fn end(
     columns: usize,
     hops: usize,
     a: Block,
-    goals: &[u32; Model::COLUMNS],
-    sets: &[u32; Model::BLOCKS * Model::COLUMNS],
-    here: &[u32; Model::COLUMNS],
+    goals: &ColumnSets,
+    sets: &BlockSets,
+    here: &ColumnSets,
 ) -> Found
     requires { ⌜ (columns ≤ limits .columns) × (a .0 < limits .blocks) ⌝ }
     ensures { λ r. ⌜ r ≡ endBy columns (now (goals .entry)) (now (sets .entry)) hops a (now (here .entry)) ⌝ }
@@ -89,14 +93,14 @@ pub fn follow(
     steps: usize,
     count: usize,
     from: Block,
-    needs: &[u32; Model::STEPS * Model::COLUMNS],
-    lands: &[u32; Model::STEPS * Model::COLUMNS],
-    goals: &[u32; Model::COLUMNS],
+    needs: &StepSets,
+    lands: &StepSets,
+    goals: &ColumnSets,
     costs: &[u16],
-    sets: &[u32; Model::BLOCKS * Model::COLUMNS],
-    dist: &[u64; Model::BLOCKS],
-    here: &mut [u32; Model::COLUMNS],
-    path: &mut [u8; Model::BLOCKS],
+    sets: &BlockSets,
+    dist: &Distances,
+    here: &mut ColumnSets,
+    path: &mut Path,
 ) -> Found
     requires { ⌜ (columns ≤ limits .columns) × (steps ≤ limits .steps) × (steps ≤ length (now costs)) × (count ≤ limits .blocks) × (from .0 < count) × (getD (now dist) (from .0) 0 % 65536 < limits .blocks) × (length (now here) ≡ limits .columns) × (length (now path) ≡ limits .blocks) ⌝ }
     ensures { λ r. ⌜ outcome r (now (here .exit)) (now (path .exit)) ≡ followBy columns steps count (now (needs .entry)) (now (lands .entry)) (now (goals .entry)) (now (costs .entry)) (now (sets .entry)) (now (dist .entry)) (getD (now (dist .entry)) (from .0) 0 % 65536) 0 from (now (here .entry)) (now (path .entry)) ⌝ ∗ ⌜ Known steps r (now (path .exit)) × (length (now (here .exit)) ≡ limits .columns) × (length (now (path .exit)) ≡ limits .blocks) ⌝ ∗ ⌜ ((t : Task) (cs : List Cut) (x : State) (d : Distance) → Begins t cs x d columns steps count from (now (needs .entry)) (now (lands .entry)) (now (goals .entry)) (now (costs .entry)) (now (sets .entry)) (now (dist .entry)) (now (here .entry)) → seen (d .cost) r (now (path .exit)) ≡ walked t columns count (now (sets .entry)) x from d) ⌝ }

@@ -2,9 +2,8 @@
 use Prim.Native.Nat.{ℕ}
 use mathlib.Core.Path.{_≡_}
 use mathlib.Core.List.{List}
-use lib.Dec.{eqb}
 use Rattle.task.specs.Loops.{over}
-use Rattle.fields.specs.Judging.{pick, refusal}
+use Rattle.fields.specs.Judging.{refusal, unlessRefused}
 use Rattle.fields.specs.Packing.{sheetOf}
 use Rattle.sheets.specs.ModelSheet.{Source, columnsIn, stepsIn, entries, modelBytes}
 use Rattle.sheets.specs.LentTables.{ofTables, writeChecks}
@@ -26,8 +25,9 @@ outcome a sheet = record { answer = a; sheet = sheet }
 -- a refusal returns only its number and changes nothing lent; else the bytes are the sheet, and those past it stay
 unfoldable pub writing : Source → List ℕ → Outcome
 writing p sheet =
-    let n = refusal (writeChecks p sheet) in
-    pick (eqb n 0) (outcome (Sheet (modelBytes (columnsIn p) (stepsIn p))) (over (sheetOf (entries p)) sheet)) (outcome (Refused n) sheet)
+    unlessRefused (refusal (writeChecks p sheet))
+    (outcome (Sheet (modelBytes (columnsIn p) (stepsIn p))) (over (sheetOf (entries p)) sheet))
+    (λ n. outcome (Refused n) sheet)
 
 -- what `write_model` promises, whatever is passed: the answer and the bytes at exit
 abbrev pub WritesModel : (columns steps : ℕ) (frame costs marks sheet : List ℕ) → SheetWritten → (sheet′ : List ℕ) → Type 0

@@ -6,7 +6,7 @@ use lib.ListN.{length}
 use Rattle.task.specs.Loops.{first}
 use Rattle.along.specs.Along.{hereAfter, stopAt}
 use Rattle.along.proofs.TurnLaws.{here-none, here-more, small, stopped, went, through}
-use Rattle.trace.proofs.HopLaws.{first-nothing}
+use Rattle.task.proofs.LoopLaws.{first-nothing}
 use borrow.Author.Tests.{not-true, not-false}
 use borrow.Author.Needs.{needs}
 use Rattle.along.proofs.judge_log.Statement.{statement}

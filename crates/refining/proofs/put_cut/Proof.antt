@@ -2,7 +2,7 @@ use native.Mathlib.Omega.{arith}
 use mathlib.Core.Path.{refl}
 use lib.ListN.{length-set}
 use Rattle.fields.specs.Places.{puts}
-use Rattle.refining.specs.Listing.{cutPlace}
+use Rattle.blocks.specs.Flat.{cutPlace}
 use borrow.Author.Needs.{needs}
 use Rattle.refining.proofs.put_cut.Statement.{statement}
 use Rattle.refining.proofs.put_cut.Tie as tie

@@ -1,7 +1,7 @@
 use mathlib.Core.Path.{refl}
 use Rattle.task.specs.Loops.{over}
 use Rattle.run.specs.Run.{rowsOf}
-use Rattle.refining.specs.Listing.{listed}
+use Rattle.run.specs.Listing.{listed}
 use Rattle.refining.specs.Refining.{answerOf, blocksTold, KnownEnd, StepsFit}
 use Rattle.running.specs.Running.{PathCosts, told}
 use Rattle.running.proofs.RunningLaws.{plan-told}

@@ -1,6 +1,6 @@
 use Rattle.standing.proofs.RowLaws.{off-none, lowest-here, lowest-none}
 use Rattle.standing.specs.Standing.{offAt}
-use Rattle.trace.proofs.HopLaws.{first-nothing, first-more}
+use Rattle.task.proofs.LoopLaws.{first-nothing, first-more}
 use Rattle.task.specs.Loops.{first}
 use native.Mathlib.Omega.{arith}
 use Prim.Native.Nat.{_-_, _≤_}

@@ -1,4 +1,5 @@
-use Rattle.trace.proofs.HopLaws.{first-nothing, first-more, next-no, next-yes, fits-rest, tried, none-found, found, answers}
+use Rattle.task.proofs.LoopLaws.{first-nothing, first-more}
+use Rattle.trace.proofs.HopLaws.{next-no, next-yes, fits-rest, tried, none-found, found, answers}
 use mathlib.Core.Path.{_≡_, sym, _∙_}
 use mathlib.Core.Logic.{⊎-elim}
 use mathlib.Core.Option.{none}
