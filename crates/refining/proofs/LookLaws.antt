@@ -23,7 +23,7 @@ use Rattle.run.specs.Run.{Look, hopeless, lookFrom, look}
 use Rattle.trace.specs.Hops.{Holds}
 use Rattle.walk.specs.declared.Found.{Found}
 use Rattle.walk.specs.declared.Found.the-variants as walk
-use Rattle.standing.specs.Standing.{Stands}
+use Rattle.blocks.specs.Masks.{Stands}
 use Rattle.standing.proofs.StartLaws as begin
 use Rattle.walk.specs.Walking.{Begins, seen, Known, walked, pathSteps}
 use Rattle.refining.specs.Refining.{Given, Made, lookOf, toldBy, KnownSeen}

@@ -9,7 +9,7 @@ use Rattle.task.specs.Sizes.{limits}
 use Rattle.task.specs.Task.{Task, State, Accepted, start}
 use Rattle.blocks.specs.Blocks.{accepted, blocksOf}
 use Rattle.blocks.specs.Flat.{blocksIn, cutsIn, cutPlace}
-use Rattle.settling.specs.Coded.{Tables}
+use Rattle.blocks.specs.Masks.{Tables}
 use Rattle.run.specs.Run as run
 use Rattle.run.specs.Run.{Outcome, hopeless, planned, flaw, plan, noPlan, «open»}
 use Rattle.walk.specs.declared.Found.{Found}

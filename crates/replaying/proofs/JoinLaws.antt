@@ -14,12 +14,12 @@ use Rattle.task.specs.Sizes.{limits}
 use Rattle.task.specs.Task.{Task, State, Accepted, column, step, at, columnCount, stepCount, isState, start, canTake, taken}
 use Rattle.task.proofs.LoopLaws.{and-left, and-right, first-none, first-some, when-some, when-none, first-empty, or-none}
 use Rattle.blocks.specs.Blocks.{holds, isEmpty, common, only, accepted, blocksOf}
-use Rattle.blocks.specs.Masks.{Told}
+use Rattle.blocks.specs.Masks.{Told, Stands}
 use Rattle.blocks.specs.Flat.{cutAt, cutsIn, goesOn, followed}
 use Rattle.distances.specs.Distances.{estimate}
 use Rattle.settling.specs.Coded.{codedOver}
 use Rattle.settling.proofs.CostLaws.{cost-found}
-use Rattle.standing.specs.Standing.{Stands, takesBy}
+use Rattle.standing.specs.Standing.{takesBy}
 use Rattle.standing.proofs.StandLaws.{takes-is, stands-taken, apart-only, twice}
 use Rattle.along.specs.Along.{hereAfter, goesBy, stopAt, stopRow, sendsOn, blockBy, costBy}
 use Rattle.replay.specs.Replay.{stepAt, before, badAt, badRow}

@@ -16,10 +16,8 @@ use Rattle.sheet_laws.proofs.Given.{read-code, given-task, given-accepted}
 use Rattle.unpack.specs.declared.Read.{Read}
 use Rattle.unpack.specs.Unpacking.{unpacked}
 use Rattle.blocks.specs.Blocks.{only}
-use Rattle.blocks.specs.Masks.{needSets, landSets, goalSets}
-use Rattle.settling.specs.Coded.{Tables}
+use Rattle.blocks.specs.Masks.{needSets, landSets, goalSets, Tables, Stands}
 use Rattle.settling.proofs.JoinLaws.{model-tables}
-use Rattle.standing.specs.Standing.{Stands}
 use Rattle.standing.proofs.StartLaws.{start-front, place-small, stands}
 use Rattle.replaying.specs.declared.Frame.{Frame}
 use Rattle.replaying.specs.Replaying.{Tabled}

@@ -14,8 +14,7 @@ use Rattle.sheets.specs.ModelSheet.{judgeSheet}
 use Rattle.sheets.specs.Holding.{taskOn}
 use Rattle.sheets.specs.LentTables.{tooFew}
 use Rattle.blocks.specs.declared.Cut.{Cut}
-use Rattle.settling.specs.Coded.{Tables}
-use Rattle.standing.specs.Standing.{Stands}
+use Rattle.blocks.specs.Masks.{Tables, Stands}
 use Rattle.cut_sheets.specs.CutPart.{cutOn, countOf, judgeCuts}
 use Rattle.cut_sheets.specs.Judged.{Made}
 use Rattle.replay.specs.declared.Replayed.the-variants.{Rows}

@@ -22,13 +22,13 @@ use Rattle.task.specs.Task.{Task, Accepted, Tenths, step, block, costOf}
 use Rattle.task.proofs.LoopLaws.{tab-length, over-length, over-at}
 use Rattle.blocks.specs.Blocks.{Blocks, leads}
 use Rattle.blocks.specs.Flat.{blocksIn}
-use Rattle.blocks.specs.Masks.{needSets, landSets, goalSets}
+use Rattle.blocks.specs.Masks.{needSets, landSets, goalSets, Tables}
 use Rattle.blocks.proofs.FlatLaws.{blocks-length}
 use Rattle.blocks.proofs.MaskLaws.{leads-by, goal-by, masks-told}
 use Rattle.distances.specs.Distances.{Distance, Hop, AtMost, DistanceIs, leadsTo, isPath, far, farOf, plus, zeroFar, distances}
 use Rattle.settling.specs.Ways.{Path, here, step as hop, NoWorse, noWay, IsDist, AllDist}
 use Rattle.arcs.specs.Arcs.{Arc, GoalIn, costIn}
-use Rattle.settling.specs.Coded.{coded, decoded, codedAt, codedOver, Tables}
+use Rattle.settling.specs.Coded.{coded, decoded, codedAt, codedOver}
 use Rattle.distances.proofs.LeastLaws.{PathOf, first-of, path-cons, distances-right}
 use Rattle.distances.proofs.TableLaws.{distance-unique, rounds-bound}
 

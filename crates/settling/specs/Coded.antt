@@ -1,16 +1,12 @@
 -- A distance as one number: its cost times 65536, and its steps. "No way" is the mark for it, times 65536.
-use mathlib.Core.Path.{_≡_}
 use mathlib.Core.Bool.{cond}
 use mathlib.Core.List.{List}
 use mathlib.Core.Option.{Option, none, some}
-use Prim.Native.Nat.{ℕ, _+_, _*_, _/_, _%_, _<_}
+use Prim.Native.Nat.{ℕ, _+_, _*_, _/_, _%_}
 use lib.Dec.{ltb}
-use lib.ListN.{getD}
-use Rattle.task.specs.declared.Step.{Step}
 use Rattle.task.specs.Loops.{tab, over}
-use Rattle.task.specs.Task.{Task, block, columnCount, stepCount, costOf}
+use Rattle.task.specs.Task.{Task, block}
 use Rattle.blocks.specs.Blocks.{Blocks}
-use Rattle.blocks.specs.Masks.{Told}
 use Rattle.distances.specs.Distances.{Distance, Table, farOf, distances}
 use Rattle.settling.specs.Ways.{noWay}
 
@@ -27,10 +23,3 @@ codedAt l a = coded (farOf l (block a))
 -- a table of numbers whose first places hold the distances, the others what they held
 unfoldable pub codedOver : Task → Blocks → ℕ → List ℕ → List ℕ
 codedOver t bs count old = over (tab count (codedAt (distances t bs))) old
-
--- the tables that code works on are those of the task
-pub record Tables (t : Task) (columns steps : ℕ) (needs lands goals costs : List ℕ) : Type 0 where
-  pub wide : columnCount t ≡ columns
-  pub long : stepCount t ≡ steps
-  pub told : Told t needs lands goals
-  pub cost : (s : Step) → s .0 < steps → costOf t s ≡ getD costs (s .0) 0

@@ -20,14 +20,14 @@ use Rattle.task.proofs.LoopLaws.{true-or-false, all-ext, tab-at, over-at, first
 use Rattle.task.proofs.TaskLaws.{column-passes, per-at, position-below, taken-at}
 use Rattle.blocks.specs.Blocks.{PositionSet, holds, only, common, isEmpty, setAt, blockAt, goalIn, inBlock}
 use Rattle.blocks.specs.Flat.{past, rowOf, blocksIn}
-use Rattle.blocks.specs.Masks.{wants, landing, lies, allLie, Told}
+use Rattle.blocks.specs.Masks.{wants, landing, lies, allLie, Told, Stands}
 use Rattle.blocks.proofs.SetLaws.{holds-only, holds-every, in-common, common-held}
 use Rattle.blocks.proofs.PartLaws.{Parts, same-or-not}
 use Rattle.blocks.proofs.FlatLaws.{past-start, blocks-length, block-at, set-at}
 use Rattle.blocks.proofs.MaskLaws.{none-empty, only-some, lies-goal}
 use Rattle.run.specs.Run.{Wanted, wantedAt, allowed, backAt, goalWanted, needWanted, backWanted, cutColumn, cutFor}
 use Rattle.run.proofs.FlawLaws.{Flaw, cut-column}
-use Rattle.standing.specs.Standing.{Stands, landed, backSet, isOff, takesBy, goalAtEnd, landedAt, landsBy, takenBy, needRow, backRow, offAt, lowestOff, cutBy}
+use Rattle.standing.specs.Standing.{landed, backSet, isOff, takesBy, goalAtEnd, landedAt, landsBy, takenBy, needRow, backRow, offAt, lowestOff, cutBy}
 use Rattle.standing.specs.Standing as standing
 
 -- ---- one column

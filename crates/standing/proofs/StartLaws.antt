@@ -14,7 +14,7 @@ use Rattle.task.proofs.LoopLaws.{tab-ext, over-at}
 use Rattle.task.proofs.TableLaws.{columns-of, start-of}
 use Rattle.task.proofs.TaskLaws.{start-state, position-below}
 use Rattle.blocks.specs.Blocks.{only}
-use Rattle.standing.specs.Standing.{Stands}
+use Rattle.blocks.specs.Masks.{Stands}
 
 -- the front of a list, place by place
 take-tab : {A : Type 0} (n : ℕ) (l : List A) (d : A) → n ≤ length l → take n l ≡ tab n (λ j. getD l j d)

@@ -3,22 +3,17 @@
 use mathlib.Core.Bool.{Bool, _&&_, not, cond}
 use mathlib.Core.List.{List}
 use mathlib.Core.Option.{Option, Option·getD}
-use mathlib.Core.Path.{_≡_}
-use Prim.Native.Nat.{ℕ, _<_}
+use Prim.Native.Nat.{ℕ}
 use lib.ListN.{getD}
 use Rattle.task.specs.declared.Column.{Column}
 use Rattle.task.specs.declared.Block.{Block}
 use Rattle.task.specs.Loops.{all, first, when, tab, over}
 use Rattle.task.specs.Sizes.{limits}
-use Rattle.task.specs.Task.{Task, State, column, at, columnCount}
+use Rattle.task.specs.Task.{column}
 use Rattle.blocks.specs.declared.Cut.{Cut}
-use Rattle.blocks.specs.Blocks.{PositionSet, only, common, isEmpty}
+use Rattle.blocks.specs.Blocks.{PositionSet, common, isEmpty}
 use Rattle.blocks.specs.Flat.{past, rowOf}
 use Rattle.blocks.specs.Masks.{allLie}
-
--- a row of sets with one position each holds the positions of a state
-unfoldable pub Stands : Task → State → List PositionSet → Type 0
-Stands t x here = (j : Column) → j .0 < columnCount t → getD here (j .0) 0 ≡ only (at x j)
 
 -- ---- one column
 

@@ -18,14 +18,14 @@ use Rattle.task.specs.Task.{Task, Accepted, step, block, costOf}
 use Rattle.task.proofs.LoopLaws.{and-left, true-or-false, below-suc, all-false, all-fails, first-some, when-some, first-empty, first-ext, first-here}
 use Rattle.blocks.specs.Blocks.{Blocks}
 use Rattle.blocks.specs.Flat.{blocksIn}
-use Rattle.blocks.specs.Masks.{allLie, passes, leadsBy}
+use Rattle.blocks.specs.Masks.{allLie, passes, leadsBy, Tables}
 use Rattle.blocks.proofs.FlatLaws.{blocks-length}
 use Rattle.blocks.proofs.MaskLaws.{leads-by}
 use Rattle.blocks.proofs.PartLaws.{same-or-not}
 use Rattle.distances.specs.Distances.{Distance, Hop, farOf, plus, leadsTo, distances}
 use Rattle.arcs.specs.Arcs.{fitsIn}
 use Rattle.settling.specs.Ways.{noWay}
-use Rattle.settling.specs.Coded.{coded, codedAt, Tables}
+use Rattle.settling.specs.Coded.{coded, codedAt}
 use Rattle.settling.proofs.JoinLaws.{far-small}
 use Rattle.run.specs.Run.{keeps, nextHop}
 use Rattle.trace.specs.declared.Next.{Next}

@@ -23,7 +23,8 @@ use Rattle.blocks.proofs.PartLaws.{Parts}
 use Rattle.blocks.proofs.FlatLaws.{blocks-length}
 use Rattle.blocks.proofs.CutLaws.{accepted-parts}
 use Rattle.distances.specs.Distances.{Distance, Hop, Table, plus, far, zeroFar, leadsTo, isPath, farOf, distances}
-use Rattle.settling.specs.Coded.{Tables, coded, codedAt}
+use Rattle.blocks.specs.Masks.{Tables, Stands}
+use Rattle.settling.specs.Coded.{coded, codedAt}
 use Rattle.settling.proofs.JoinLaws.{far-small}
 use Rattle.run.specs.Run.{Walk, arrived, flawed, Look, planned, flaw, keeps, nextHop, trace, walk, cutFor, lookWalk}
 use Rattle.run.proofs.TraceLaws.{keeps-some, next-lowest, trace-next, trace-none, trace-path}
@@ -34,7 +35,7 @@ use Rattle.walk.specs.declared.Found.{Found}
 use Rattle.walk.specs.declared.Found.the-variants.{Plan}
 use Rattle.walk.specs.declared.Turn.{Turn}
 use Rattle.walk.specs.declared.Turn.the-variants.{Went, Ended, Flawed}
-use Rattle.standing.specs.Standing.{Stands, takesBy, landsBy, goalAtEnd, takenBy, needRow, backRow, cutBy}
+use Rattle.standing.specs.Standing.{takesBy, landsBy, goalAtEnd, takenBy, needRow, backRow, cutBy}
 use Rattle.walk.specs.Walking.{Followed, outcome, endBy, turnOn, turnBy, followBy, stepIn, seen, Known, Begins, walked}
 use Rattle.standing.proofs.StandLaws.{takes-is, goal-is, lands-is, stands-taken, goal-cut, need-cut, back-cut}
 use Rattle.walk.proofs.FollowLaws.{follow-none, follow-ended, follow-flawed, follow-went}

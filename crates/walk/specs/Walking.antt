@@ -14,10 +14,10 @@ use Rattle.blocks.specs.declared.Cut.{Cut}
 use Rattle.blocks.specs.Blocks.{PositionSet, blockAt, inBlock, accepted, blocksOf}
 use Rattle.blocks.specs.Flat.{blocksIn}
 use Rattle.distances.specs.Distances.{Distance, Hop, farOf, distances}
-use Rattle.settling.specs.Coded.{Tables}
+use Rattle.blocks.specs.Masks.{Tables, Stands}
 use Rattle.run.specs.Run.{Look, planned, flaw, trace, walk, lookWalk}
 use Rattle.trace.specs.Hops.{fitsBy, nextBy, Holds}
-use Rattle.standing.specs.Standing.{Stands, takesBy, goalAtEnd, landsBy, takenBy, needRow, backRow, cutBy}
+use Rattle.standing.specs.Standing.{takesBy, goalAtEnd, landsBy, takenBy, needRow, backRow, cutBy}
 use Rattle.walk.specs.declared.Found.{Found}
 use Rattle.walk.specs.declared.Found.the-variants.{Plan, Flaw}
 use Rattle.walk.specs.declared.Turn.{Turn}
