@@ -11,6 +11,7 @@ use native.Mathlib.Omega.{arith}
 use lib.Pow.{pow-pos, pow-mono}
 use lib.Bits.{bitAnd, and-high, and-zero-r}
 use lib.ListN.{getD}
+use lib.Seq.{getD-drop}
 use borrow.Author.Tests.{eq-eqb, ne-eqb, le-ltb, lt-ltb}
 use Rattle.task.specs.declared.Column.{Column}
 use Rattle.task.specs.declared.Position.{Position}
@@ -20,7 +21,7 @@ use Rattle.task.specs.declared.Mark.{Mark}
 use Rattle.task.specs.declared.Model.{Model}
 use Rattle.task.specs.Task.{Task, Accepted, column, position, columnCount, stepCount, sizeOf, needAt, effectAt, goalAt, eachColumn}
 use Rattle.task.specs.Tables.{mark, marked, taskOf}
-use Rattle.task.proofs.LoopLaws.{all-ext, tab-at, getD-drop}
+use Rattle.task.proofs.LoopLaws.{all-ext, tab-at}
 use Rattle.task.proofs.TableLaws.{columns-of, steps-of, goal-of, need-of, effect-of, marked-none, marked-some}
 use Rattle.blocks.specs.Blocks.{PositionSet, holds, only, common, isEmpty, leadsAt, goalIn, blockAt, leads, goalBlock}
 use Rattle.blocks.specs.Flat.{past, rowOf, blocksIn}

@@ -5,7 +5,7 @@ use mathlib.Core.Bool.{Bool, true, false, _&&_}
 use mathlib.Core.List.{List, [], _∷_, _++_, map, append-assoc}
 use mathlib.Core.Option.{Option, none, some}
 use Prim.Native.Nat.{ℕ, zero, suc, _+_, _≤_, _<_}
-use native.Mathlib.Nat.{eq-or-lt-of-le, le-of-suc-le-suc, not-suc-le-zero, zero-add, suc-add}
+use native.Mathlib.Nat.{eq-or-lt-of-le, le-of-suc-le-suc, not-suc-le-zero}
 use native.Mathlib.Omega.{arith}
 use native.Mathlib.Numerals.{add-one}
 use lib.ListN.{length, getD, set, drop, length-append, length-drop, length-map, List·getD-append}
@@ -188,12 +188,6 @@ over-length n f l h = rw (length-append, tab-length n f, length-drop) (omega ari
 pub over-at : {A : Type 0} (n : ℕ) (f : ℕ → A) (l : List A) (d : A) (i : ℕ) → i < n → getD (over (tab n f) l) i d ≡ f i
 unfolding over
 over-at n f l d i h = List·getD-append (tab n f) _ d i (omega (arith, tab-length n f)) ∙ tab-at n f d i h
-
--- a place of the rest of a list
-pub getD-drop : {A : Type 0} (k : ℕ) (l : List A) (i : ℕ) (d : A) → getD (drop k l) i d ≡ getD l (k + i) d
-getD-drop zero l i d = ap (λ (n : ℕ). getD l n d) (sym (zero-add i))
-getD-drop (suc k) [] i d = refl
-getD-drop (suc k) (x ∷ l) i d = getD-drop k l i d ∙ ap (λ (n : ℕ). getD (x ∷ l) n d) (sym (suc-add k i))
 
 -- the length of an array of structs, from what owning it tells
 pub length-mapped : (X Y : Type 0) (f : X → Y) (l : List X) (n : ℕ) → length (map f l) ≡ n → length l ≡ n
