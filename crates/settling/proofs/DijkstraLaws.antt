@@ -9,6 +9,7 @@ use native.Mathlib.Decide.{decLt, ℕ-discrete}
 use native.Mathlib.Omega.{arith}
 use lib.ListN.{length, getD, set, replicate}
 use lib.Seq.{getD-set-same, getD-set-other}
+use Rattle.task.specs.Sizes.{limits, mostSteps, mostCost, mostTenths, tenth}
 use Rattle.settling.specs.Ways.{Path, here, step, NoWorse, noWay, IsDist}
 use Rattle.settling.specs.Turns.{weight, Better, Relaxed, Nearest, Settled, Started}
 
@@ -35,13 +36,13 @@ zeros-length (suc x ∷ l) = let r = zeros-length l in omega arith
 same-or-not : {P : Type 0} (a b : ℕ) → (a ≡ b → P) → ((a ≡ b → ⊥) → P) → P
 same-or-not a b f g = elim (ℕ-discrete a b) [ yes e ↦ f e | no e ↦ g e ]
 
--- a value d of block a that a path has, of so few steps that z more make 256 at most
+-- a value d of block a that a path has, of so few steps that z more make as many as there can be blocks, at most
 pub record Reach (arc : ℕ → ℕ → ℕ → Type 0) (goal : ℕ → Type 0) (cost : ℕ → ℕ) (a d z : ℕ) : Type 0 where
   pub c : ℕ
   pub t : ℕ
   pub path : Path arc goal cost a c t
-  pub key : d ≡ c * 65536 + t
-  pub few : t + z ≤ 256
+  pub key : d ≡ c * tenth + t
+  pub few : t + z ≤ limits .blocks
 
 -- between two turns: the values D, and the flags F, 1 for a settled block
 pub record Inv (n : ℕ) (arc : ℕ → ℕ → ℕ → Type 0) (goal : ℕ → Type 0) (cost : ℕ → ℕ) (D F : List ℕ) : Type 0 where
@@ -54,8 +55,8 @@ pub record Inv (n : ℕ) (arc : ℕ → ℕ → ℕ → Type 0) (goal : ℕ → 
   pub finite : (a : ℕ) → a < n → getD F a 0 ≡ 1 → getD D a 0 < noWay
 
 module _ (n : ℕ) (arc : ℕ → ℕ → ℕ → Type 0) (goal : ℕ → Type 0) (cost : ℕ → ℕ)
-    (from : (a s b : ℕ) → arc a s b → a < n) (into : (a s b : ℕ) → arc a s b → b < n) (cheap : (s : ℕ) → cost s ≤ 65535) where
-  pub path-cost : {a c t : ℕ} → Path arc goal cost a c t → c ≤ t * 65535
+    (from : (a s b : ℕ) → arc a s b → a < n) (into : (a s b : ℕ) → arc a s b → b < n) (cheap : (s : ℕ) → cost s ≤ mostCost) where
+  pub path-cost : {a c t : ℕ} → Path arc goal cost a c t → c ≤ t * mostCost
   path-cost (here g) = omega arith
   path-cost (step s b l p) = let h = path-cost p in let k = cheap s in omega arith
 
@@ -201,22 +202,23 @@ module _ (n : ℕ) (arc : ℕ → ℕ → ℕ → Type 0) (goal : ℕ → Type 0
         (λ g. let z = inv .flag a in let e : getD F a 0 ≡ 0 = omega arith in let k = done a h e in omega arith)
 
     -- a value's cost and steps, of a block with a path
-    parts : (a : ℕ) → a < n → getD D a 0 < noWay → Path arc goal cost a (getD D a 0 / 65536) (getD D a 0 % 65536) × (getD D a 0 % 65536 ≤ 255) × (getD D a 0 / 65536 ≤ 16711425)
+    parts : (a : ℕ) → a < n → getD D a 0 < noWay
+        → Path arc goal cost a (getD D a 0 / tenth) (getD D a 0 % tenth) × (getD D a 0 % tenth ≤ mostSteps) × (getD D a 0 / tenth ≤ mostTenths)
     parts a h l =
         let w = inv .reach a h l in
         let s = settled a h l in
         let k = w .key in
         let f = w .few in
         let m = path-cost (w .path) in
-        let ec : getD D a 0 / 65536 ≡ w .c = omega arith in
-        let et : getD D a 0 % 65536 ≡ w .t = omega arith in
+        let ec : getD D a 0 / tenth ≡ w .c = omega arith in
+        let et : getD D a 0 % tenth ≡ w .t = omega arith in
         (rw (ec, et) (w .path), omega arith, omega arith)
 
-    -- at most 255 steps, and so much cost
-    pub small-end : (a : ℕ) → a < n → getD D a 0 < noWay → (getD D a 0 % 65536 ≤ 255) × (getD D a 0 / 65536 ≤ 16711425)
+    -- so few steps, and so much cost
+    pub small-end : (a : ℕ) → a < n → getD D a 0 < noWay → (getD D a 0 % tenth ≤ mostSteps) × (getD D a 0 / tenth ≤ mostTenths)
     small-end a h l = (parts a h l .1, parts a h l .2)
 
-    best : {a c t : ℕ} → a < n → Path arc goal cost a c t → (getD D a 0 < noWay) × NoWorse (getD D a 0 / 65536) (getD D a 0 % 65536) c t
+    best : {a c t : ℕ} → a < n → Path arc goal cost a c t → (getD D a 0 < noWay) × NoWorse (getD D a 0 / tenth) (getD D a 0 % tenth) c t
     best {a} h (here g) = let k = inv .goals a h g in (omega arith, inr (omega arith, omega arith))
     best {a} h (step {c = c} {t = t} s b l p) =
         let hb = into a s b l in
@@ -227,15 +229,16 @@ module _ (n : ℕ) (arc : ℕ → ℕ → ℕ → Type 0) (goal : ℕ → Type 0
         let k = inv .arcs a s b l (settled b hb (i .0)) in
         let x = cheap s in
         let low : getD D a 0 < noWay = omega arith in
-        let goes : Dec (getD D a 0 / 65536 < cost s + c) → NoWorse (getD D a 0 / 65536) (getD D a 0 % 65536) (cost s + c) (t + 1) =
+        let goes : Dec (getD D a 0 / tenth < cost s + c) → NoWorse (getD D a 0 / tenth) (getD D a 0 % tenth) (cost s + c) (t + 1) =
         elim [ yes y ↦ inl y | no y ↦ ⊎-elim (λ v. inl (omega arith)) (λ v. inr (omega arith, omega arith)) (i .1) ] in
-        (low, goes (decLt (getD D a 0 / 65536) (cost s + c)))
+        (low, goes (decLt (getD D a 0 / tenth) (cost s + c)))
 
     pub at-end : (a : ℕ) → a < n → IsDist arc goal cost a (getD D a 0)
     at-end a h = record { top = inv .top a h; some-path = λ l. parts a h l .0; no-better = λ p. best h p }
 
 -- once a nearest block is settled, no settled one is farther
-pub settled-nearest : (n : ℕ) (arc : ℕ → ℕ → ℕ → Type 0) (goal : ℕ → Type 0) (cost : ℕ → ℕ) (D F : List ℕ) (b : ℕ) → Inv n arc goal cost D F → Nearest n D F b → Settled n D (set F b 1) b
+pub settled-nearest : (n : ℕ) (arc : ℕ → ℕ → ℕ → Type 0) (goal : ℕ → Type 0) (cost : ℕ → ℕ) (D F : List ℕ) (b : ℕ)
+    → Inv n arc goal cost D F → Nearest n D F b → Settled n D (set F b 1) b
 settled-nearest n arc goal cost D F b inv near =
     record {
       low = λ a h e.
@@ -257,7 +260,8 @@ all-zero (suc k) zero = refl
 all-zero (suc k) (suc a) = all-zero k a
 
 -- before the first turn, with no flag set
-module _ (n : ℕ) (arc : ℕ → ℕ → ℕ → Type 0) (g : ℕ → Bool) (cost : ℕ → ℕ) (D₀ D F : List ℕ) (none : (a : ℕ) → getD F a 0 ≡ 0) (room : length F ≤ 256) (s : Started g n D₀ D) where
+module _ (n : ℕ) (arc : ℕ → ℕ → ℕ → Type 0) (g : ℕ → Bool) (cost : ℕ → ℕ) (D₀ D F : List ℕ)
+    (none : (a : ℕ) → getD F a 0 ≡ 0) (room : length F ≤ limits .blocks) (s : Started g n D₀ D) where
   pub begin : Inv n arc (λ a. g a ≡ true) cost D F
   begin =
       record {

@@ -13,7 +13,7 @@ use lib.Seq.{ext-getD, getD-drop, getD-append-add}
 use borrow.Author.Tests.{lt-ltb, le-ltb}
 use Rattle.task.specs.declared.Step.{Step}
 use Rattle.task.specs.declared.Block.{Block}
-use Rattle.task.specs.Sizes.{limits}
+use Rattle.task.specs.Sizes.{limits, mostSteps, mostCost, mostTenths, tenth}
 use Rattle.task.specs.Loops.{tab, over}
 use Rattle.task.specs.declared.Model.{Model}
 use Rattle.task.specs.Tables.{taskOf}
@@ -47,7 +47,7 @@ below-or-not : (i n : ℕ) → (i < n) ⊎ (n ≤ i)
 below-or-not i n = elim (decLt i n) [ yes l ↦ inl l | no l ↦ inr (omega arith) ]
 
 -- ---- numbers and distances
-pub decoded-low : (n : ℕ) → n < noWay → decoded n ≡ some (record { cost = n / 65536; steps = n % 65536 })
+pub decoded-low : (n : ℕ) → n < noWay → decoded n ≡ some (record { cost = n / tenth; steps = n % tenth })
 unfolding decoded
 decoded-low n h = rw (lt-ltb n noWay h)
 
@@ -112,7 +112,7 @@ module _ (t : Task) (columns count steps : ℕ) (needs lands goals costs sets : 
         | yes l ↦ rw (decoded-low d l) (
             record {
               path = path-there (r .some-path l) h;
-              least = λ hs w. at-most (d / 65536) (d % 65536) (far t hs) (r .no-better (path-back hs a h w) .1);
+              least = λ hs w. at-most (d / tenth) (d % tenth) (far t hs) (r .no-better (path-back hs a h w) .1);
             })
         | no l ↦ rw (decoded-high d (omega arith)) (λ hs w. l (r .no-better (path-back hs a h w) .0))
       ]
@@ -131,7 +131,8 @@ module _ (t : Task) (columns count steps : ℕ) (needs lands goals costs sets : 
       sym (coded-decoded d (r .top)) ∙ ap coded e
 
   -- what the search leaves is the table of the distances, and every other place as it was
-  pub all-coded : (D D′ : List ℕ) → length D ≡ 256 → length D′ ≡ 256 → count ≤ 256 → AllDist (Arc columns count steps needs lands sets) (GoalIn columns goals sets) (costIn costs) count D D′
+  pub all-coded : (D D′ : List ℕ) → length D ≡ limits .blocks → length D′ ≡ limits .blocks → count ≤ limits .blocks
+      → AllDist (Arc columns count steps needs lands sets) (GoalIn columns goals sets) (costIn costs) count D D′
       → D′ ≡ codedOver t (blocksIn columns count sets) count D
   unfolding codedOver arc bs
   all-coded D D′ l l′ h r =
@@ -147,11 +148,12 @@ pub model-tables : (m : Model) → Accepted (taskOf m) → Tables (taskOf m) (m 
 model-tables m v = record { wide = columns-of m; long = steps-of m; told = masks-told m v; cost = λ s h. cost-of m s h }
 
 -- ---- back from the numbers
-module _ (t : Task) (bs : Blocks) (cheap : (s : Step) → costOf t s ≤ 65535) (few : length bs ≤ 256) where
+module _ (t : Task) (bs : Blocks) (cheap : (s : Step) → costOf t s ≤ mostCost) (few : length bs ≤ limits .blocks) where
   -- the largest distance
-  pub far-small : (a : Block) (d : Distance) → a .0 < length bs → farOf (distances t bs) a ≡ some d → (d .steps ≤ 255) × (d .cost ≤ 255 * 65535)
+  pub far-small : (a : Block) (d : Distance) → a .0 < length bs → farOf (distances t bs) a ≡ some d
+      → (d .steps ≤ mostSteps) × (d .cost ≤ mostTenths)
   unfolding distances
-  far-small a d h e = let b = rounds-bound t bs 65535 cheap (length bs) a h e in (omega (arith, b .0), omega (arith, b .0, b .1))
+  far-small a d h e = let b = rounds-bound t bs mostCost cheap (length bs) a h e in (omega (arith, b .0), omega (arith, b .0, b .1))
 
   -- a number is at most the mark for "no way", and says its distance
   pub record Says (n : ℕ) (o : Option Distance) : Type 0 where
@@ -166,19 +168,20 @@ module _ (t : Task) (bs : Blocks) (cheap : (s : Step) → costOf t s ≤ 65535) 
       go none e = record { top = omega arith; is = decoded-high noWay (omega arith) }
       go (some d) e =
           let s = far-small a d h e in
-          let n : ℕ = d .cost * 65536 + d .steps in
-          let c : n / 65536 ≡ d .cost = omega (arith, s .0) in
-          let k : n % 65536 ≡ d .steps = omega (arith, s .0) in
+          let n : ℕ = d .cost * tenth + d .steps in
+          let c : n / tenth ≡ d .cost = omega (arith, s .0) in
+          let k : n % tenth ≡ d .steps = omega (arith, s .0) in
           record {
             top = omega (arith, s .0, s .1);
             is = decoded-low n (omega (arith, s .0, s .1)) ∙ ap₂ {C = Option Distance} (λ (x y : ℕ). some (record { cost = x; steps = y })) c k;
           }
 
   -- its cost, and the mark where there is no way
-  pub cost-said : (a : Block) → a .0 < length bs → codedAt (distances t bs) (a .0) / 65536 ≡ Option·getD (Option·map (λ d. d .cost) (farOf (distances t bs) a)) (limits .«no_way»)
+  pub cost-said : (a : Block) → a .0 < length bs
+      → codedAt (distances t bs) (a .0) / tenth ≡ Option·getD (Option·map (λ d. d .cost) (farOf (distances t bs) a)) (limits .«no_way»)
   unfolding codedAt coded
   cost-said a h = go (farOf (distances t bs) a) refl
     where
-      go : (o : Option Distance) → farOf (distances t bs) a ≡ o → coded o / 65536 ≡ Option·getD (Option·map (λ d. d .cost) o) (limits .«no_way»)
+      go : (o : Option Distance) → farOf (distances t bs) a ≡ o → coded o / tenth ≡ Option·getD (Option·map (λ d. d .cost) o) (limits .«no_way»)
       go none e = refl
       go (some d) e = omega (arith, far-small a d h e .0)

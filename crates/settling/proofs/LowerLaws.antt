@@ -14,7 +14,7 @@ use lib.Seq.{getD-set-same, getD-set-other}
 use Rattle.task.proofs.LoopLaws.{and-left, and-right, and-both, true-or-false}
 use Rattle.blocks.specs.Masks.{leadsBy}
 use Rattle.arcs.specs.Arcs.{Arc, fitsIn}
-use Rattle.arcs.specs.Words.{bitAt, inWord, openIn, Opened, told, toldIn}
+use Rattle.arcs.specs.Words.{bitAt, inWord, openIn, Opened, told, toldIn, word}
 use Rattle.settling.specs.Turns.{weight, Relaxed, Lowered, Started, Settled, Open}
 use Rattle.settling.specs.Ways.{noWay}
 
@@ -92,47 +92,49 @@ module _ (columns few : ℕ) (narrow lands sets able meets left : List ℕ) (s b
 
 -- ---- a word of blocks
 module _ (w v : ℕ) where
-  pub in-word : (i : ℕ) → i < 32 → inWord w v (w * 32 + i) ≡ bitAt v i
+  pub in-word : (i : ℕ) → i < word → inWord w v (w * word + i) ≡ bitAt v i
   unfolding inWord
   in-word i h =
-      let q : (w * 32 + i) / 32 ≡ w = omega arith in
-      let r : (w * 32 + i) % 32 ≡ i = omega arith in
+      let q : (w * word + i) / word ≡ w = omega arith in
+      let r : (w * word + i) % word ≡ i = omega arith in
       rw (q, r, eq-eqb w w refl)
 
-  out-of-word : (a : ℕ) → (a / 32 ≡ w → ⊥) → inWord w v a ≡ false
+  out-of-word : (a : ℕ) → (a / word ≡ w → ⊥) → inWord w v a ≡ false
   unfolding inWord
-  out-of-word a n = rw (ne-eqb (a / 32) w n)
+  out-of-word a n = rw (ne-eqb (a / word) w n)
 
 module _ (w v k : ℕ) (D : List ℕ) where
-  pub word-start : Lowered (inWord w v) k (w * 32) D D
+  pub word-start : Lowered (inWord w v) k (w * word) D D
   word-start = record { each = λ a h. inl (refl, (λ t. absurd (false≢true (sym (out-of-word w v a (λ q. omega arith)) ∙ t)))); rest = λ a h. refl }
 
   pub word-none : (n : ℕ) → v ≡ 0 → Lowered (inWord w v) k n D D
   unfolding inWord bitAt
-  word-none n e = lowered-no _ k n D (λ a. rw (e, and-false (eqb (a / 32) w)))
+  word-none n e = lowered-no _ k n D (λ a. rw (e, and-false (eqb (a / word) w)))
 
   -- a pass over the words before w, and then over w
-  pub word-more : (f : ℕ → Bool) (D′ D″ : List ℕ) → Lowered f k (w * 32) D D′ → Lowered (inWord w v) k (w * 32 + 32) D′ D″ → ((i : ℕ) → i < 32 → f (w * 32 + i) ≡ bitAt v i)
-      → Lowered f k ((w + 1) * 32) D D″
+  pub word-more : (f : ℕ → Bool) (D′ D″ : List ℕ) → Lowered f k (w * word) D D′
+      → Lowered (inWord w v) k (w * word + word) D′ D″ → ((i : ℕ) → i < word → f (w * word + i) ≡ bitAt v i)
+      → Lowered f k ((w + 1) * word) D D″
   word-more f D′ D″ p l e =
       record {
-        each = λ a h. elim (decLt a (w * 32)) [ yes q ↦ early a q | no q ↦ late a (omega arith) (omega arith) ];
+        each = λ a h. elim (decLt a (w * word)) [ yes q ↦ early a q | no q ↦ late a (omega arith) (omega arith) ];
         rest = λ a h. l .rest a (omega arith) ∙ p .rest a (omega arith);
       }
     where
-      early : (a : ℕ) → a < w * 32 → ((getD D″ a 0 ≡ getD D a 0) × (f a ≡ true → getD D a 0 ≤ k)) ⊎ ((getD D″ a 0 ≡ k) × (k < getD D a 0) × (f a ≡ true))
+      early : (a : ℕ) → a < w * word → ((getD D″ a 0 ≡ getD D a 0) × (f a ≡ true → getD D a 0 ≤ k)) ⊎ ((getD D″ a 0 ≡ k) × (k < getD D a 0) × (f a ≡ true))
       early a q =
           ⊎-elim
           (λ x. ⊎-elim (λ y. inl (x .0 ∙ y .0, y .1)) (λ y. inr (x .0 ∙ y .0, y .1, y .2)) (p .each a q))
           (λ x. absurd (false≢true (sym (out-of-word w v a (λ z. omega arith)) ∙ x .2)))
           (l .each a (omega arith))
 
-      same : (a : ℕ) → w * 32 ≤ a → a < w * 32 + 32 → f a ≡ inWord w v a
+      same : (a : ℕ) → w * word ≤ a → a < w * word + word → f a ≡ inWord w v a
       same a h q =
-          let z : w * 32 + (a - w * 32) ≡ a = omega arith in
-          sym (ap f z) ∙ e (a - w * 32) (omega arith) ∙ sym (in-word w v (a - w * 32) (omega arith)) ∙ ap (inWord w v) z
+          let z : w * word + (a - w * word) ≡ a = omega arith in
+          sym (ap f z) ∙ e (a - w * word) (omega arith) ∙ sym (in-word w v (a - w * word) (omega arith)) ∙ ap (inWord w v) z
 
-      late : (a : ℕ) → w * 32 ≤ a → a < w * 32 + 32 → ((getD D″ a 0 ≡ getD D a 0) × (f a ≡ true → getD D a 0 ≤ k)) ⊎ ((getD D″ a 0 ≡ k) × (k < getD D a 0) × (f a ≡ true))
+      late : (a : ℕ) → w * word ≤ a → a < w * word + word → ((getD D″ a 0 ≡ getD D a 0) × (f a ≡ true → getD D a 0 ≤ k))
+          ⊎ ((getD D″ a 0 ≡ k) × (k < getD D a 0) × (f a ≡ true))
       late a h q =
           let r = p .rest a h in
           ⊎-elim

@@ -5,11 +5,12 @@ use mathlib.Core.Logic.{_⊎_}
 use mathlib.Core.List.{List}
 use Prim.Native.Nat.{ℕ, _+_, _*_, _<_, _≤_}
 use lib.ListN.{getD}
+use Rattle.task.specs.Sizes.{tenth}
 use Rattle.arcs.specs.Words.{Opened}
 use Rattle.settling.specs.Ways.{noWay}
 
 abbrev pub weight : (ℕ → ℕ) → ℕ → ℕ
-weight cost s = cost s * 65536 + 1
+weight cost s = cost s * tenth + 1
 
 -- where block a has a better value by way of b: the step
 pub record Better (arc : ℕ → ℕ → ℕ → Type 0) (cost : ℕ → ℕ) (D D′ : List ℕ) (b a : ℕ) : Type 0 where

@@ -3,7 +3,7 @@ use mathlib.Core.Path.{_≡_}
 use mathlib.Core.Logic.{_⊎_}
 use mathlib.Core.List.{List}
 use lib.ListN.{getD}
-use Rattle.task.specs.Sizes.{limits}
+use Rattle.task.specs.Sizes.{limits, mostSteps, mostTenths, tenth}
 use Prim.Native.Nat.{ℕ, _+_, _*_, _/_, _%_, _<_, _≤_}
 
 -- a path from a block to a goal block: its cost, and its number of steps
@@ -15,18 +15,18 @@ pub data Path (arc : ℕ → ℕ → ℕ → Type 0) (goal : ℕ → Type 0) (co
 abbrev pub NoWorse : ℕ → ℕ → ℕ → ℕ → Type 0
 NoWorse c t c′ t′ = (c < c′) ⊎ ((c ≡ c′) × (t ≤ t′))
 
--- a distance holds its cost and its number of steps: cost * 65536 + steps
+-- a distance holds its cost and its number of steps: cost * tenth + steps
 abbrev pub noWay : ℕ
-noWay = limits .«no_way» * 65536
+noWay = limits .«no_way» * tenth
 
 -- d is the distance of block a: that of a path, and no path is better; noWay where there is no path
 pub record IsDist (arc : ℕ → ℕ → ℕ → Type 0) (goal : ℕ → Type 0) (cost : ℕ → ℕ) (a d : ℕ) : Type 0 where
   pub top : d ≤ noWay
-  pub some-path : d < noWay → Path arc goal cost a (d / 65536) (d % 65536)
-  pub no-better : {c t : ℕ} → Path arc goal cost a c t → (d < noWay) × NoWorse (d / 65536) (d % 65536) c t
+  pub some-path : d < noWay → Path arc goal cost a (d / tenth) (d % tenth)
+  pub no-better : {c t : ℕ} → Path arc goal cost a c t → (d < noWay) × NoWorse (d / tenth) (d % tenth) c t
 
 -- the first n places hold the distances, and the others what they held
 pub record AllDist (arc : ℕ → ℕ → ℕ → Type 0) (goal : ℕ → Type 0) (cost : ℕ → ℕ) (n : ℕ) (D D′ : List ℕ) : Type 0 where
   pub each : (a : ℕ) → a < n → IsDist arc goal cost a (getD D′ a 0)
-  pub small : (a : ℕ) → a < n → getD D′ a 0 < noWay → (getD D′ a 0 % 65536 ≤ 255) × (getD D′ a 0 / 65536 ≤ 16711425)
+  pub small : (a : ℕ) → a < n → getD D′ a 0 < noWay → (getD D′ a 0 % tenth ≤ mostSteps) × (getD D′ a 0 / tenth ≤ mostTenths)
   pub rest : (a : ℕ) → n ≤ a → getD D′ a 0 ≡ getD D a 0

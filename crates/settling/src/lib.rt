@@ -3,7 +3,7 @@ ghost use mathlib.Core.Path.{_≡_};
 ghost use mathlib.Core.Bool.{cond};
 ghost use Prim.Native.Nat.{ℕ, _+_, _*_, _<_, _≤_};
 ghost use lib.ListN.{length, getD};
-ghost use Rattle.task.specs.Sizes.{limits};
+ghost use Rattle.task.specs.Sizes.{limits, mostCost, tenth};
 ghost use Rattle.task.specs.Task.{Task};
 ghost use Rattle.blocks.specs.Flat.{past, rowOf, blocksIn};
 ghost use Rattle.blocks.specs.Masks.{goalBy, Tables};
@@ -28,7 +28,7 @@ use task::Distances;
 use task::Model;
 use task::StepSets;
 
-const NO_WAY: u64 = Model::NO_WAY as u64 * 65536;
+const NO_WAY: u64 = Model::NO_WAY as u64 * Model::TENTH;
 
 fn first_value(goal: bool) -> u64
     ensures { λ r. ⌜ r ≡ cond goal 0 noWay ⌝ }
@@ -39,7 +39,8 @@ fn first_value(goal: bool) -> u64
 // The values before the first turn.
 fn start(columns: usize, count: usize, goals: &ColumnSets, sets: &BlockSets, dist: &mut Distances)
     requires { ⌜ (columns ≤ limits .columns) × (count ≤ limits .blocks) × (length (now dist) ≡ limits .blocks) ⌝ }
-    ensures { λ _. ⌜ Started (goalBy columns (now (goals .entry)) (now (sets .entry))) count (now (dist .entry)) (now (dist .exit)) ⌝ ∗ ⌜ length (now (dist .exit)) ≡ limits .blocks ⌝ }
+    ensures { λ _. ⌜ Started (goalBy columns (now (goals .entry)) (now (sets .entry))) count (now (dist .entry)) (now (dist .exit)) ⌝
+        ∗ ⌜ length (now (dist .exit)) ≡ limits .blocks ⌝ }
 {
     let mut a: usize = 0;
     while a < count {
@@ -71,9 +72,9 @@ fn nearest(count: usize, dist: &Distances, done: &[u8; Model::BLOCKS]) -> usize
 
 // What a step adds to a distance: its cost, and one step.
 pub fn weigh(cost: u16) -> u64
-    ensures { λ r. ⌜ (r ≡ cost * 65536 + 1) × (r ≤ 65535 * 65536 + 1) ⌝ }
+    ensures { λ r. ⌜ (r ≡ cost * tenth + 1) × (r ≤ mostCost * tenth + 1) ⌝ }
 {
-    (cost as u64) * 65536 + 1
+    (cost as u64) * Model::TENTH + 1
 }
 
 // Gives the value k to each block of a mask of word w that has a greater one.
@@ -110,7 +111,9 @@ fn sweep(
     dist: &mut Distances,
 )
     requires { ⌜ (few ≤ limits .columns) × (used ≤ words) × (s < limits .steps) × (length (now dist) ≡ limits .blocks) ⌝ ∗ ⌜ Listed few (now narrow) ⌝ }
-    ensures { λ _. ⌜ Lowered (told few (now (narrow .entry)) (now (lands .entry)) (now (able .entry)) (now (meets .entry)) (now (left .entry)) s) k (used * word) (now (dist .entry)) (now (dist .exit)) ⌝ ∗ ⌜ length (now (dist .exit)) ≡ limits .blocks ⌝ }
+    ensures { λ _. ⌜ Lowered (told few (now (narrow .entry)) (now (lands .entry)) (now (able .entry)) (now (meets .entry)) (now (left .entry)) s) k
+        (used * word) (now (dist .entry)) (now (dist .exit)) ⌝
+        ∗ ⌜ length (now (dist .exit)) ≡ limits .blocks ⌝ }
 {
     let mut w: usize = 0;
     while w < used {
@@ -137,8 +140,12 @@ fn lower(
     left: &[u32; WORDS],
     dist: &mut Distances,
 )
-    requires { ⌜ (columns ≤ limits .columns) × (few ≤ limits .columns) × (used ≤ words) × (s < limits .steps) × (b < limits .blocks) × (length (now dist) ≡ limits .blocks) ⌝ ∗ ⌜ Listed few (now narrow) ⌝ }
-    ensures { λ _. ⌜ Lowered (toldIn columns few (now (narrow .entry)) (now (lands .entry)) (now (sets .entry)) (now (able .entry)) (now (meets .entry)) (now (left .entry)) s b) k (used * word) (now (dist .entry)) (now (dist .exit)) ⌝ ∗ ⌜ length (now (dist .exit)) ≡ limits .blocks ⌝ }
+    requires { ⌜ (columns ≤ limits .columns) × (few ≤ limits .columns) × (used ≤ words) × (s < limits .steps) × (b < limits .blocks)
+        × (length (now dist) ≡ limits .blocks) ⌝
+        ∗ ⌜ Listed few (now narrow) ⌝ }
+    ensures { λ _. ⌜ Lowered (toldIn columns few (now (narrow .entry)) (now (lands .entry)) (now (sets .entry)) (now (able .entry)) (now (meets .entry))
+        (now (left .entry)) s b) k (used * word) (now (dist .entry)) (now (dist .exit)) ⌝
+        ∗ ⌜ length (now (dist .exit)) ≡ limits .blocks ⌝ }
 {
     if !fits_in(columns, s, b, lands, sets) {
         return;
@@ -164,8 +171,15 @@ fn tries(
     narrow: &[usize; Model::COLUMNS],
     dist: &mut Distances,
 )
-    requires { ⌜ (columns ≤ limits .columns) × (count ≤ limits .blocks) × (steps ≤ limits .steps) × (used ≡ wordsFor count) × (steps ≤ length (now costs)) × (b < count) × (length (now dist) ≡ limits .blocks) × (getD (now dist) b 0 < noWay) ⌝ ∗ ⌜ Able columns steps (now needs) (now sets) used (now able) ⌝ ∗ ⌜ Met columns used (now sets) (past (now sets) (rowOf b)) (now meets) ⌝ ∗ ⌜ Open count used (now dist) b (now left) ⌝ ∗ ⌜ Narrow columns used (now meets) (now left) few (now narrow) ⌝ }
-    ensures { λ _. ⌜ Relaxed count (Arc columns count steps (now (needs .entry)) (now (lands .entry)) (now (sets .entry))) (costIn (now (costs .entry))) (now (dist .entry)) (now (dist .exit)) b ⌝ ∗ ⌜ length (now (dist .exit)) ≡ limits .blocks ⌝ }
+    requires { ⌜ (columns ≤ limits .columns) × (count ≤ limits .blocks) × (steps ≤ limits .steps) × (used ≡ wordsFor count) × (steps ≤ length (now costs))
+        × (b < count) × (length (now dist) ≡ limits .blocks) × (getD (now dist) b 0 < noWay) ⌝
+        ∗ ⌜ Able columns steps (now needs) (now sets) used (now able) ⌝
+        ∗ ⌜ Met columns used (now sets) (past (now sets) (rowOf b)) (now meets) ⌝
+        ∗ ⌜ Open count used (now dist) b (now left) ⌝
+        ∗ ⌜ Narrow columns used (now meets) (now left) few (now narrow) ⌝ }
+    ensures { λ _. ⌜ Relaxed count (Arc columns count steps (now (needs .entry)) (now (lands .entry)) (now (sets .entry))) (costIn (now (costs .entry)))
+        (now (dist .entry)) (now (dist .exit)) b ⌝
+        ∗ ⌜ length (now (dist .exit)) ≡ limits .blocks ⌝ }
 {
     let base = dist[b];
     let mut s: usize = 0;
@@ -209,8 +223,17 @@ fn relax(
     narrow: &mut [usize; Model::COLUMNS],
     dist: &mut Distances,
 )
-    requires { ⌜ (columns ≤ limits .columns) × (count ≤ limits .blocks) × (steps ≤ limits .steps) × (used ≡ wordsFor count) × (steps ≤ length (now costs)) × (b < count) × (length (now dist) ≡ limits .blocks) × (getD (now dist) b 0 < noWay) × (length (now held) ≡ limits .columns) × (length (now meets) ≡ limits .columns * words) × (length (now left) ≡ words) × (length (now narrow) ≡ limits .columns) ⌝ ∗ ⌜ Able columns steps (now needs) (now sets) used (now able) ⌝ ∗ ⌜ Met columns used (now sets) (heldIn (now held)) (now meets) ⌝ ∗ ⌜ Settled count (now dist) (now done) b ⌝ }
-    ensures { λ _. ⌜ Relaxed count (Arc columns count steps (now (needs .entry)) (now (lands .entry)) (now (sets .entry))) (costIn (now (costs .entry))) (now (dist .entry)) (now (dist .exit)) b ⌝ ∗ ⌜ Met columns used (now (sets .entry)) (heldIn (now (held .exit))) (now (meets .exit)) ⌝ ∗ ⌜ (length (now (dist .exit)) ≡ limits .blocks) × (length (now (held .exit)) ≡ limits .columns) × (length (now (meets .exit)) ≡ limits .columns * words) × (length (now (left .exit)) ≡ words) × (length (now (narrow .exit)) ≡ limits .columns) ⌝ }
+    requires { ⌜ (columns ≤ limits .columns) × (count ≤ limits .blocks) × (steps ≤ limits .steps) × (used ≡ wordsFor count) × (steps ≤ length (now costs))
+        × (b < count) × (length (now dist) ≡ limits .blocks) × (getD (now dist) b 0 < noWay) × (length (now held) ≡ limits .columns)
+        × (length (now meets) ≡ limits .columns * words) × (length (now left) ≡ words) × (length (now narrow) ≡ limits .columns) ⌝
+        ∗ ⌜ Able columns steps (now needs) (now sets) used (now able) ⌝
+        ∗ ⌜ Met columns used (now sets) (heldIn (now held)) (now meets) ⌝
+        ∗ ⌜ Settled count (now dist) (now done) b ⌝ }
+    ensures { λ _. ⌜ Relaxed count (Arc columns count steps (now (needs .entry)) (now (lands .entry)) (now (sets .entry))) (costIn (now (costs .entry)))
+        (now (dist .entry)) (now (dist .exit)) b ⌝
+        ∗ ⌜ Met columns used (now (sets .entry)) (heldIn (now (held .exit))) (now (meets .exit)) ⌝
+        ∗ ⌜ (length (now (dist .exit)) ≡ limits .blocks) × (length (now (held .exit)) ≡ limits .columns)
+        × (length (now (meets .exit)) ≡ limits .columns * words) × (length (now (left .exit)) ≡ words) × (length (now (narrow .exit)) ≡ limits .columns) ⌝ }
 {
     fill_open(count, used, done, left);
     fill_meets(columns, used, b, sets, held, meets);
@@ -253,8 +276,16 @@ fn settle(
     done: &mut [u8; Model::BLOCKS],
     dist: &mut Distances,
 )
-    requires { ⌜ (columns ≤ limits .columns) × (count ≤ limits .blocks) × (steps ≤ limits .steps) × (used ≡ wordsFor count) × (steps ≤ length (now costs)) × (length (now dist) ≡ limits .blocks) × (length (now held) ≡ limits .columns) × (length (now meets) ≡ limits .columns * words) × (length (now left) ≡ words) × (length (now narrow) ≡ limits .columns) × (length (now done) ≡ limits .blocks) ⌝ ∗ ⌜ Able columns steps (now needs) (now sets) used (now able) ⌝ ∗ ⌜ Met columns used (now sets) (heldIn (now held)) (now meets) ⌝ ∗ ⌜ Started (goalBy columns (now goals) (now sets)) count (now dist) (now dist) ⌝ ∗ ⌜ ((a : ℕ) → getD (now done) a 0 ≡ 0) ⌝ }
-    ensures { λ _. ⌜ AllDist (Arc columns count steps (now (needs .entry)) (now (lands .entry)) (now (sets .entry))) (GoalIn columns (now (goals .entry)) (now (sets .entry))) (costIn (now (costs .entry))) count (now (dist .entry)) (now (dist .exit)) ⌝ ∗ ⌜ length (now (dist .exit)) ≡ limits .blocks ⌝ }
+    requires { ⌜ (columns ≤ limits .columns) × (count ≤ limits .blocks) × (steps ≤ limits .steps) × (used ≡ wordsFor count) × (steps ≤ length (now costs))
+        × (length (now dist) ≡ limits .blocks) × (length (now held) ≡ limits .columns) × (length (now meets) ≡ limits .columns * words)
+        × (length (now left) ≡ words) × (length (now narrow) ≡ limits .columns) × (length (now done) ≡ limits .blocks) ⌝
+        ∗ ⌜ Able columns steps (now needs) (now sets) used (now able) ⌝
+        ∗ ⌜ Met columns used (now sets) (heldIn (now held)) (now meets) ⌝
+        ∗ ⌜ Started (goalBy columns (now goals) (now sets)) count (now dist) (now dist) ⌝
+        ∗ ⌜ ((a : ℕ) → getD (now done) a 0 ≡ 0) ⌝ }
+    ensures { λ _. ⌜ AllDist (Arc columns count steps (now (needs .entry)) (now (lands .entry)) (now (sets .entry)))
+        (GoalIn columns (now (goals .entry)) (now (sets .entry))) (costIn (now (costs .entry))) count (now (dist .entry)) (now (dist .exit)) ⌝
+        ∗ ⌜ length (now (dist .exit)) ≡ limits .blocks ⌝ }
 {
     loop {
         let b = nearest(count, dist, done);
@@ -295,8 +326,11 @@ pub fn fill_distances(
     sets: &BlockSets,
     dist: &mut Distances,
 )
-    requires { ⌜ (columns ≤ limits .columns) × (steps ≤ limits .steps) × (steps ≤ length (now costs)) × (count ≤ limits .blocks) × (length (now dist) ≡ limits .blocks) ⌝ }
-    ensures { λ _. ⌜ ((t : Task) → Tables t columns steps (now (needs .entry)) (now (lands .entry)) (now (goals .entry)) (now (costs .entry)) → now (dist .exit) ≡ codedOver t (blocksIn columns count (now (sets .entry))) count (now (dist .entry))) ⌝ ∗ ⌜ length (now (dist .exit)) ≡ limits .blocks ⌝ }
+    requires { ⌜ (columns ≤ limits .columns) × (steps ≤ limits .steps) × (steps ≤ length (now costs)) × (count ≤ limits .blocks)
+        × (length (now dist) ≡ limits .blocks) ⌝ }
+    ensures { λ _. ⌜ ((t : Task) → Tables t columns steps (now (needs .entry)) (now (lands .entry)) (now (goals .entry)) (now (costs .entry))
+        → now (dist .exit) ≡ codedOver t (blocksIn columns count (now (sets .entry))) count (now (dist .entry))) ⌝
+        ∗ ⌜ length (now (dist .exit)) ≡ limits .blocks ⌝ }
 {
     let mut able = [0u32; WORDS * Model::STEPS];
     let mut held = [0u32; Model::COLUMNS];

@@ -1,4 +1,7 @@
 use mathlib.Core.Path.{refl, _∙_}
+use Prim.Native.Nat.{_*_}
+use Rattle.arcs.specs.Words.{words}
+use Rattle.task.specs.Sizes.{limits}
 use Rattle.settling.proofs.DijkstraLaws.{all-zero}
 use Rattle.arcs.proofs.WordLaws.{met-zero}
 use Rattle.settling.proofs.JoinLaws.{all-coded}
@@ -25,17 +28,29 @@ start-requires c κs = search needs
 
 settle-requires : tie.Need-settle-requires
 settle-requires c κs =
-    let q = c .before .before .before .before .before .before .before .before .before .before .before .before .pre in
-    let st = c .before .before .before .before .before .before .before .start .ensures in
-    ((q .0, q .3, q .1, refl, q .2, st .1, refl, refl, refl, refl, refl), (c .before .before .before .before .before .before .before .before .before .fill-able .ensures, (met-zero _ _ _ _ _ (all-zero 16) (all-zero 128), (record { each = st .0 .each; rest = λ a h. refl }, all-zero 256))))
+    let able = c .before .before .before .before .before .before .before .before .before in
+    let q = able .before .before .before .pre in
+    let st = c .before .before .before .before .before .before .before .start .ensures in (
+      (q .0, q .3, q .1, refl, q .2, st .1, refl, refl, refl, refl, refl),
+      (
+        able .fill-able .ensures,
+        (
+          met-zero _ _ _ _ _ (all-zero (limits .columns)) (all-zero (limits .columns * words)),
+          (record { each = st .0 .each; rest = λ a h. refl }, all-zero (limits .blocks)),
+        ),
+      ),
+    )
 
 returns : tie.Need-returns
 returns c =
-    let g = c .before .before .before .before .before .before .before .before .before .before .before .before .before .args in
-    let q = c .before .before .before .before .before .before .before .before .before .before .before .before .before .pre in
-    let st = c .before .before .before .before .before .before .before .before .start .ensures .0 in
+    let started = c .before .before .before .before .before .before .before .before in
+    let entry = started .before .before .before .before .before in
+    let g = entry .args in
+    let q = entry .pre in
+    let st = started .start .ensures .0 in
     let se = c .settle .ensures .0 in (
-      (λ t tables. all-coded t (g .columns) (g .count) (g .steps) (g .needs .now) (g .lands .now) (g .goals .now) (g .costs .now) (g .sets .now) tables (g .dist .now) _ (q .4) (c .settle .ensures .1) (q .3) (record { each = se .each; small = se .small; rest = λ a h. se .rest a h ∙ st .rest a h })),
+      (λ t tables. all-coded t (g .columns) (g .count) (g .steps) (g .needs .now) (g .lands .now) (g .goals .now) (g .costs .now) (g .sets .now) tables
+          (g .dist .now) _ (q .4) (c .settle .ensures .1) (q .3) (record { each = se .each; small = se .small; rest = λ a h. se .rest a h ∙ st .rest a h })),
       c .settle .ensures .1,
     )
 

@@ -4,7 +4,8 @@ use mathlib.Core.Path.{_≡_, sym, _∙_, ap}
 use Prim.Native.Nat.{_≤_, _-_, _+_, _*_}
 use native.Mathlib.Omega.{arith}
 use lib.ListN.{length, length-set}
-use Rattle.arcs.specs.Words.{inWord}
+use Rattle.task.specs.Sizes.{limits}
+use Rattle.arcs.specs.Words.{inWord, word}
 use Rattle.settling.specs.Turns.{Lowered}
 use Rattle.settling.proofs.LowerLaws.{lowered-skip, lowered-set, lowered-end, in-word, word-start, word-none}
 use borrow.Author.Needs.{needs}
@@ -15,10 +16,10 @@ use Rattle.settling.proofs.lower_word.Lts as lts
 use Rattle.arcs.proofs.has_bit.Reads as has-bit-reads
 
 abbrev Inv-loop : tie.InvT-loop
-Inv-loop w v k dist₀ row i₀ dist i = (i ≤ 32) × (length dist ≡ 256) × Lowered (inWord w v) k (w * 32 + i) dist₀ dist
+Inv-loop w v k dist₀ row i₀ dist i = (i ≤ word) × (length dist ≡ limits .blocks) × Lowered (inWord w v) k (w * word + i) dist₀ dist
 
 abbrev μ-loop : tie.MeasureT-loop
-μ-loop w v k dist₀ row i₀ dist i = 32 - i
+μ-loop w v k dist₀ row i₀ dist i = word - i
 
 returns : tie.Need-returns Inv-loop μ-loop
 returns c = (word-none _ _ _ _ _ (c .if1 .taken), search needs)

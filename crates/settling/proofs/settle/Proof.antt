@@ -1,9 +1,10 @@
 use mathlib.Core.Path.{_≡_, refl, _∙_}
-use Prim.Native.Nat.{ℕ, _≤_}
+use Prim.Native.Nat.{ℕ, _≤_, _*_, _<_}
 use native.Mathlib.Omega.{arith}
 use lib.ListN.{length, getD, length-set}
+use Rattle.task.specs.Sizes.{limits}
 use Rattle.arcs.specs.Arcs.{Arc, GoalIn, costIn}
-use Rattle.arcs.specs.Words.{heldIn, Met}
+use Rattle.arcs.specs.Words.{heldIn, Met, words}
 use Rattle.settling.proofs.DijkstraLaws.{Inv, zeros, begin, turn, at-end, small-end, zeros-set, settled-nearest}
 use borrow.Author.Needs.{needs}
 use Rattle.settling.proofs.settle.Statement.{statement}
@@ -15,7 +16,8 @@ use Rattle.settling.proofs.relax.Reads as relax-reads
 
 abbrev Inv-loop : tie.InvT-loop
 Inv-loop columns count steps used needs lands goals costs sets able held₀ meets₀ left₀ narrow₀ done₀ dist₀ held meets left narrow done dist =
-    (length held ≡ 16) × (length meets ≡ 128) × (length left ≡ 8) × (length narrow ≡ 16) × (length done ≡ 256) × (length dist ≡ 256) × Met columns used sets (heldIn held) meets
+    (length held ≡ limits .columns) × (length meets ≡ limits .columns * words) × (length left ≡ words) × (length narrow ≡ limits .columns)
+    × (length done ≡ limits .blocks) × (length dist ≡ limits .blocks) × Met columns used sets (heldIn held) meets
     × ((a : ℕ) → count ≤ a → getD dist a 0 ≡ getD dist₀ a 0)
     × Inv count (Arc columns count steps needs lands sets) (GoalIn columns goals sets) (costIn costs) dist done
 
@@ -35,25 +37,34 @@ element-write-done c = search needs
 
 relax-requires : tie.Need-relax-requires Inv-loop μ-loop
 relax-requires c κs =
-    let p = c .before .before .before .before .before .before .before .before .before .before .before .before .pre in
+    let t = c .before .before .before .before .before .before in
+    let found = t .before in
+    let l = found .before .before .before in
+    let p = l .before .before .pre in
     let q = p .0 in
-    let i = c .before .before .before .before .before .before .before .before .before .before .loop .inv in
-    let near = c .before .before .before .before .before .before .before .nearest .ensures .found (c .before .before .before .before .before .before .if1 .left) in
-    ((q .0, q .1, q .2, q .3, q .4, c .before .before .before .before .before .before .if1 .left, i .5, near .known, i .0, i .1, i .2, i .3), (p .1 .0, (i .6, settled-nearest _ _ _ _ _ _ _ (i .8) near)))
+    let i = l .loop .inv in
+    let near = found .nearest .ensures .found (t .if1 .left) in
+    ((q .0, q .1, q .2, q .3, q .4, t .if1 .left, i .5, near .known, i .0, i .1, i .2, i .3), (p .1 .0, (i .6, settled-nearest _ _ _ _ _ _ _ (i .8) near)))
 
 loop-less : tie.Need-loop-less Inv-loop μ-loop
 loop-less c =
-    let near = c .before .before .before .before .before .before .before .before .nearest .ensures .found (c .before .before .before .before .before .before .before .if1 .left) in
-    let l = c .before .before .before .before .before .before .before .before .before .before .before .loop in
-    let z = zeros-set (l .done) (c .before .before .before .before .before .before .before .before .nearest .result) (omega (arith, c .before .before .before .before .before .before .before .before .before .before .before .before .before .pre .0 .1, c .before .before .before .before .before .before .before .if1 .left, l .inv .4)) (near .open-yet) in
+    let t = c .before .before .before .before .before .before .before in
+    let found = t .before in
+    let l = found .before .before .before in
+    let near = found .nearest .ensures .found (t .if1 .left) in
+    let room : found .nearest .result < length (l .loop .done) = omega (arith, l .before .before .pre .0 .1, t .if1 .left, l .loop .inv .4) in
+    let z = zeros-set (l .loop .done) (found .nearest .result) room (near .open-yet) in
     omega (arith, z)
 
 loop-again : tie.Need-loop-again Inv-loop μ-loop
 loop-again c =
-    let i = c .before .before .before .before .before .before .before .before .before .before .before .loop .inv in
-    let near = c .before .before .before .before .before .before .before .before .nearest .ensures .found (c .before .before .before .before .before .before .before .if1 .left) in
+    let t = c .before .before .before .before .before .before .before in
+    let found = t .before in
+    let l = found .before .before .before in
+    let i = l .loop .inv in
+    let near = found .nearest .ensures .found (t .if1 .left) in
     let r = c .relax .ensures in
-    let cheap = c .before .before .before .before .before .before .before .before .before .before .before .before .shared-slice-known .given in (
+    let cheap = l .before .shared-slice-known .given in (
       r .1 .1 .1,
       r .1 .1 .2,
       r .1 .1 .3,
@@ -62,7 +73,8 @@ loop-again c =
       r .1 .1 .0,
       r .1 .0,
       (λ a h. r .0 .rest a h ∙ i .7 a h),
-      turn _ _ _ _ (λ a s b l. l .out) (λ a s b l. l .into) (λ s. omega (arith, cheap s)) _ _ _ _ (i .8) near (r .0) (omega (arith, c .before .before .before .before .before .before .before .before .before .before .before .before .before .pre .0 .1, c .before .before .before .before .before .before .before .if1 .left, i .4)),
+      turn _ _ _ _ (λ a s b l. l .out) (λ a s b l. l .into) (λ s. omega (arith, cheap s)) _ _ _ _ (i .8) near (r .0)
+          (omega (arith, l .before .before .pre .0 .1, t .if1 .left, i .4)),
     )
 
 returns : tie.Need-returns Inv-loop μ-loop

@@ -2,8 +2,9 @@ use mathlib.Core.Path.{_≡_}
 use Prim.Native.Nat.{_≤_, _-_, _*_}
 use native.Mathlib.Omega.{arith}
 use lib.ListN.{length}
+use Rattle.task.specs.Sizes.{limits}
 use Rattle.settling.specs.Turns.{Lowered}
-use Rattle.arcs.specs.Words.{told}
+use Rattle.arcs.specs.Words.{told, word}
 use Rattle.arcs.proofs.ArcLaws.{told-word}
 use Rattle.settling.proofs.LowerLaws.{lowered-none, lowered-end, word-more}
 use borrow.Author.Needs.{needs}
@@ -15,7 +16,8 @@ use Rattle.arcs.proofs.kept_word.Reads as kept-word-reads
 use Rattle.settling.proofs.lower_word.Reads as lower-word-reads
 
 abbrev Inv-loop : tie.InvT-loop
-Inv-loop few used s k narrow lands able meets left dist₀ w₀ dist w = (w ≤ used) × (length dist ≡ 256) × Lowered (told few narrow lands able meets left s) k (w * 32) dist₀ dist
+Inv-loop few used s k narrow lands able meets left dist₀ w₀ dist w =
+    (w ≤ used) × (length dist ≡ limits .blocks) × Lowered (told few narrow lands able meets left s) k (w * word) dist₀ dist
 
 abbrev μ-loop : tie.MeasureT-loop
 μ-loop few used s k narrow lands able meets left dist₀ w₀ dist w = used - w

@@ -2,8 +2,10 @@ use mathlib.Core.Path.{_≡_}
 use Prim.Native.Nat.{_≤_, _-_, _*_}
 use native.Mathlib.Omega.{arith}
 use lib.ListN.{length}
+use Rattle.task.specs.Sizes.{limits}
 use Rattle.blocks.specs.Masks.{leadsBy}
 use Rattle.arcs.specs.Arcs.{costIn}
+use Rattle.arcs.specs.Words.{word}
 use Rattle.arcs.proofs.WordLaws.{narrow-listed}
 use Rattle.arcs.proofs.ArcLaws.{arc-told}
 use Rattle.settling.proofs.LowerLaws.{Part, part-none, part-down, part-more, part-end, lowered-open}
@@ -17,7 +19,7 @@ use Rattle.settling.proofs.weigh.Reads as weigh-reads
 
 abbrev Inv-loop : tie.InvT-loop
 Inv-loop columns count steps few used b needs lands costs sets able meets left narrow dist₀ base s₀ dist s =
-    (s ≤ steps) × (length dist ≡ 256) × Part count (λ x a. leadsBy columns needs lands sets x a b) (costIn costs) dist₀ dist b s
+    (s ≤ steps) × (length dist ≡ limits .blocks) × Part count (λ x a. leadsBy columns needs lands sets x a b) (costIn costs) dist₀ dist b s
 
 abbrev μ-loop : tie.MeasureT-loop
 μ-loop columns count steps few used b needs lands costs sets able meets left narrow dist₀ base s₀ dist s = steps - s
@@ -67,7 +69,7 @@ loop-again c =
       omega arith,
       c .lower .ensures .1,
       part-more _ _ _ _ _ (l .inv .2)
-          (lowered-open _ _ (o .has) _ _ (g .used * 32) _ _ (omega (arith, p .0 .3))
+          (lowered-open _ _ (o .has) _ _ (g .used * word) _ _ (omega (arith, p .0 .3))
           (λ a h. arc-told (g .columns) (g .steps) (g .used) (g .few) (g .needs .now) (g .lands .now) (g .sets .now) (g .b) (g .able .now) (g .meets .now) (g .left .now) (g .narrow .now) (o .has) (p .1 .0) (p .1 .1 .0) (o .words-of) (p .1 .1 .1 .1) (l .s) a more (omega (arith, h)))
           (o .outside)
           (λ a h e. let d = part-down _ _ _ _ _ (l .inv .2) a h in let u = o .low a h e in omega (arith, d, u))
