@@ -15,6 +15,7 @@ use Rattle.task.specs.declared.Step.{Step}
 use Rattle.task.specs.declared.Block.{Block}
 use Rattle.task.specs.Loops.{first, when}
 use Rattle.task.specs.Task.{Task, Accepted, step, block, costOf}
+use Rattle.task.specs.Sizes.{limits, mostSteps, mostCost, mostTenths, tenth}
 use Rattle.task.proofs.LoopLaws.{and-left, true-or-false, below-suc, all-false, all-fails, first-some, when-some, first-empty, first-ext, first-here}
 use Rattle.blocks.specs.Blocks.{Blocks}
 use Rattle.blocks.specs.Flat.{blocksIn}
@@ -57,16 +58,16 @@ module _ (fits : ℕ → ℕ → Bool) where
       (rw (← w) (p .below), rw (← w) (q .below))
 
 -- ---- the numbers keep a distance where the distances do
-keeps-none : (d : Distance) (w : ℕ) → d .steps ≤ 255 → d .cost ≤ 255 * 65535 → keepsIn (coded (some d)) w (coded none) ≡ keeps d w none
+keeps-none : (d : Distance) (w : ℕ) → d .steps ≤ mostSteps → d .cost ≤ mostTenths → keepsIn (coded (some d)) w (coded none) ≡ keeps d w none
 unfolding keepsIn coded keeps
-keeps-none d w s c = ne-eqb _ _ (λ (e : d .cost * 65536 + d .steps ≡ noWay + (w * 65536 + 1)). omega arith)
+keeps-none d w s c = ne-eqb _ _ (λ (e : d .cost * tenth + d .steps ≡ noWay + (w * tenth + 1)). omega arith)
 
 -- two costs and step counts in one number each are the same number exactly where both are the same
-same-pairs : (d e : Distance) (w : ℕ) → d .steps ≤ 255 → e .steps ≤ 255
-    → eqb (d .cost * 65536 + d .steps) (e .cost * 65536 + e .steps + (w * 65536 + 1)) ≡ (eqb (w + e .cost) (d .cost) && eqb (suc (e .steps)) (d .steps))
+same-pairs : (d e : Distance) (w : ℕ) → d .steps ≤ mostSteps → e .steps ≤ mostSteps
+    → eqb (d .cost * tenth + d .steps) (e .cost * tenth + e .steps + (w * tenth + 1)) ≡ (eqb (w + e .cost) (d .cost) && eqb (suc (e .steps)) (d .steps))
 same-pairs d e w s s′ =
-    let x : ℕ = d .cost * 65536 + d .steps in
-    let y : ℕ = e .cost * 65536 + e .steps + (w * 65536 + 1) in
+    let x : ℕ = d .cost * tenth + d .steps in
+    let y : ℕ = e .cost * tenth + e .steps + (w * tenth + 1) in
     ⊎-elim
     (λ (c : w + e .cost ≡ d .cost).
     ⊎-elim
@@ -76,7 +77,7 @@ same-pairs d e w s s′ =
     (λ (c : w + e .cost ≢ d .cost). ne-eqb x y (λ (z : x ≡ y). c (omega arith)) ∙ sym (rw (ne-eqb (w + e .cost) (d .cost) c)))
     (same-or-not (w + e .cost) (d .cost))
 
-keeps-some : (d e : Distance) (w : ℕ) → d .steps ≤ 255 → e .steps ≤ 255 → keepsIn (coded (some d)) w (coded (some e)) ≡ keeps d w (some e)
+keeps-some : (d e : Distance) (w : ℕ) → d .steps ≤ mostSteps → e .steps ≤ mostSteps → keepsIn (coded (some d)) w (coded (some e)) ≡ keeps d w (some e)
 unfolding keepsIn coded keeps plus
 keeps-some = same-pairs
 
@@ -88,12 +89,12 @@ turned false false = refl
 
 -- ---- a step that can't be taken, or weighs more than the distance, is passed over; of any other the rest of the distance is looked for
 module _ (columns : ℕ) (needs lands costs sets dist : List ℕ) (a s : ℕ) where
-  pub fits-rest : (b rest : ℕ) → mayTake columns needs costs sets dist a s ≡ true → rest ≡ getD dist a 0 - (getD costs s 0 * 65536 + 1)
+  pub fits-rest : (b rest : ℕ) → mayTake columns needs costs sets dist a s ≡ true → rest ≡ getD dist a 0 - (getD costs s 0 * tenth + 1)
       → (eqb (getD dist b 0) rest && leadsBy columns needs lands sets s a b) ≡ fitsBy columns needs lands costs sets dist a s b
   unfolding mayTake fitsBy keepsIn
   fits-rest b rest m e =
       let own : ℕ = getD dist a 0 in
-      let w : ℕ = getD costs s 0 * 65536 + 1 in
+      let w : ℕ = getD costs s 0 * tenth + 1 in
       let next : ℕ = getD dist b 0 in
       let l = ltb-false own w (not-true (ltb own w) (and-left (not (ltb own w)) _ m)) in
       ap (λ (x : Bool). x && leadsBy columns needs lands sets s a b)
@@ -110,7 +111,7 @@ module _ (columns : ℕ) (needs lands costs sets dist : List ℕ) (a s : ℕ) wh
   unfolding mayTake fitsBy keepsIn
   no-fit b m =
       let own : ℕ = getD dist a 0 in
-      let w : ℕ = getD costs s 0 * 65536 + 1 in
+      let w : ℕ = getD costs s 0 * tenth + 1 in
       ⊎-elim
       (λ (h : ltb own w ≡ true). let l = ltb-true own w h in rw (ne-eqb own (getD dist b 0 + w) (λ z. omega arith)))
       (λ (h : ltb own w ≡ false). let f : fitsIn columns needs sets s a ≡ false = rw h at m in rw (no-lead b f) (and-false (eqb own (getD dist b 0 + w))))
@@ -133,7 +134,7 @@ module _ (columns : ℕ) (needs lands costs sets dist : List ℕ) (a s : ℕ) wh
 
 -- ---- the search on the tables is the one of the definitions
 module _ (t : Task) (columns steps count : ℕ) (needs lands goals costs sets dist : List ℕ) (tables : Tables t columns steps needs lands goals costs)
-    (cheap : (s : Step) → costOf t s ≤ 65535) (few : count ≤ 256) (holds : Holds (distances t (blocksIn columns count sets)) count dist) where
+    (cheap : (s : Step) → costOf t s ≤ mostCost) (few : count ≤ limits .blocks) (holds : Holds (distances t (blocksIn columns count sets)) count dist) where
   bs : Blocks
   bs = blocksIn columns count sets
 
@@ -146,10 +147,10 @@ module _ (t : Task) (columns steps count : ℕ) (needs lands goals costs sets di
   unfolding codedAt
   keeps-same a b d w ha hb e = rw e (go (farOf (distances t bs) b) refl)
     where
-      l : length bs ≤ 256
+      l : length bs ≤ limits .blocks
       l = omega (arith, long)
 
-      sd : (d .steps ≤ 255) × (d .cost ≤ 255 * 65535)
+      sd : (d .steps ≤ mostSteps) × (d .cost ≤ mostTenths)
       sd = far-small t bs cheap l a d (rw long ha) e
 
       go : (o : Option Distance) → farOf (distances t bs) b ≡ o → keepsIn (coded (some d)) w (coded o) ≡ keeps d w o
@@ -174,7 +175,7 @@ module _ (t : Task) (columns steps count : ℕ) (needs lands goals costs sets di
       (first-ext steps _ _ (λ s hs. first-ext count _ _ (λ b hb. ap (λ (x : Bool). when x (hop s b)) (fits-same a d ha e s b hs hb))))
 
 -- what the search answers, of the tables and of any task whose tables they are
-pub answers : (columns steps count : ℕ) (needs lands costs sets dist : List ℕ) (a : Block) (r : Next) → count ≤ 256 → a .0 < count
+pub answers : (columns steps count : ℕ) (needs lands costs sets dist : List ℕ) (a : Block) (r : Next) → count ≤ limits .blocks → a .0 < count
     → hopOf r ≡ nextBy steps count (fitsBy columns needs lands costs sets dist (a .0))
     → (hopOf r ≡ nextBy steps count (fitsBy columns needs lands costs sets dist (a .0)))
     × ((t : Task) (goals : List ℕ) → Accepted t → Tables t columns steps needs lands goals costs → Holds (distances t (blocksIn columns count sets)) count dist → NextIs t (blocksIn columns count sets) a r)

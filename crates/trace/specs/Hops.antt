@@ -9,6 +9,7 @@ use lib.ListN.{getD}
 use Rattle.task.specs.Loops.{first, when}
 use Rattle.task.specs.declared.Block.{Block}
 use Rattle.task.specs.Task.{Task, step, block}
+use Rattle.task.specs.Sizes.{tenth}
 use Rattle.blocks.specs.Blocks.{Blocks}
 use Rattle.blocks.specs.Masks.{leadsBy}
 use Rattle.distances.specs.Distances.{Distance, Hop, Table, farOf, distances}
@@ -20,7 +21,7 @@ use Rattle.trace.specs.declared.Next.the-variants.{To, Nothing}
 
 -- cost and step count, plus this step, give the block's own
 unfoldable pub keepsIn : ℕ → ℕ → ℕ → Bool
-keepsIn own w next = eqb own (next + (w * 65536 + 1))
+keepsIn own w next = eqb own (next + (w * tenth + 1))
 
 -- step s leads from block a to block b and keeps the distance
 unfoldable pub fitsBy : ℕ → List ℕ → List ℕ → List ℕ → List ℕ → List ℕ → ℕ → ℕ → ℕ → Bool
@@ -28,7 +29,7 @@ fitsBy columns needs lands costs sets dist a s b = keepsIn (getD dist a 0) (getD
 
 -- step s can be taken in block a, and weighs no more than a's distance
 unfoldable pub mayTake : ℕ → List ℕ → List ℕ → List ℕ → List ℕ → ℕ → ℕ → Bool
-mayTake columns needs costs sets dist a s = not (ltb (getD dist a 0) (getD costs s 0 * 65536 + 1)) && fitsIn columns needs sets s a
+mayTake columns needs costs sets dist a s = not (ltb (getD dist a 0) (getD costs s 0 * tenth + 1)) && fitsIn columns needs sets s a
 
 abbrev pub hop : ℕ → ℕ → Hop
 hop s b = record { step = step s; to = block b }

@@ -5,7 +5,7 @@ ghost use mathlib.Core.Bool.{cond, _&&_};
 ghost use Prim.Native.Nat.{ℕ, _+_, _-_, _*_, _<_, _≤_};
 ghost use lib.Dec.{eqb};
 ghost use lib.ListN.{length, getD};
-ghost use Rattle.task.specs.Sizes.{limits};
+ghost use Rattle.task.specs.Sizes.{limits, tenth};
 ghost use Rattle.task.specs.Task.{Task, Accepted};
 ghost use Rattle.blocks.specs.Flat.{blocksIn};
 ghost use Rattle.blocks.specs.Masks.{leadsBy, Tables};
@@ -27,7 +27,7 @@ pub enum Next {
 
 // The distance that is left after a step of that cost, 0 where the step weighs more.
 fn after(own: u64, cost: u16) -> u64
-    ensures { λ r. ⌜ r ≡ own - (cost * 65536 + 1) ⌝ }
+    ensures { λ r. ⌜ r ≡ own - (cost * tenth + 1) ⌝ }
 {
     let weight = weigh(cost);
     if own < weight {
@@ -102,7 +102,11 @@ pub fn next_hop(
     dist: &Distances,
 ) -> Next
     requires { ⌜ (columns ≤ limits .columns) × (steps ≤ limits .steps) × (steps ≤ length (now costs)) × (count ≤ limits .blocks) × (a .0 < count) ⌝ }
-    ensures { λ r. ⌜ hopOf r ≡ nextBy steps count (fitsBy columns (now (needs .entry)) (now (lands .entry)) (now (costs .entry)) (now (sets .entry)) (now (dist .entry)) (a .0)) ⌝ ∗ ⌜ ((t : Task) (goals : List ℕ) → Accepted t → Tables t columns steps (now (needs .entry)) (now (lands .entry)) goals (now (costs .entry)) → Holds (distances t (blocksIn columns count (now (sets .entry)))) count (now (dist .entry)) → NextIs t (blocksIn columns count (now (sets .entry))) a r) ⌝ }
+    ensures { λ r. ⌜ hopOf r ≡ nextBy steps count (fitsBy columns (now (needs .entry)) (now (lands .entry)) (now (costs .entry)) (now (sets .entry))
+        (now (dist .entry)) (a .0)) ⌝
+        ∗ ⌜ ((t : Task) (goals : List ℕ) → Accepted t → Tables t columns steps (now (needs .entry)) (now (lands .entry)) goals (now (costs .entry))
+        → Holds (distances t (blocksIn columns count (now (sets .entry)))) count (now (dist .entry))
+        → NextIs t (blocksIn columns count (now (sets .entry))) a r) ⌝ }
 {
     let from = a.0 as usize;
     let mut s: usize = 0;

@@ -6,6 +6,7 @@ use mathlib.Core.Option.{none}
 use Prim.Native.Nat.{_≤_, _<_, _-_}
 use native.Mathlib.Omega.{arith}
 use Rattle.task.specs.Loops.{first}
+use Rattle.task.specs.Sizes.{limits}
 use Rattle.trace.specs.Hops.{fitsBy, nextIn, nextOf, nextBy, hopOf}
 use borrow.Author.Needs.{needs}
 use Rattle.trace.proofs.next_hop.Statement.{statement}
@@ -57,8 +58,12 @@ loop-holds c = (omega arith, first-nothing _)
 
 fits-requires : tie.Need-fits-requires Inv-loop μ-loop Inv-steps μ-steps
 fits-requires c κs =
-    let g = c .before .before .before .before .before .before .before .before .before .before .args in
-    let k = tried (g .columns) (g .needs .now) (g .lands .now) (g .costs .now) (g .sets .now) (g .dist .now) (g .a .0) (c .before .before .before .before .before .before .before .steps .s) (g .count) _ (c .before .before .before .before .before .to-try .ensures) (c .before .loop .b) (c .loop-test .taken) .1 in
+    let asked = c .before .before .before .before .before in
+    let s = asked .before .before in
+    let g = s .before .before .before .args in
+    let k =
+    tried (g .columns) (g .needs .now) (g .lands .now) (g .costs .now) (g .sets .now) (g .dist .now) (g .a .0) (s .steps .s) (g .count) _
+    (asked .to-try .ensures) (c .before .loop .b) (c .loop-test .taken) .1 in
     search (k, needs)
 
 add-b : tie.Need-add-b Inv-loop μ-loop Inv-steps μ-steps
@@ -69,10 +74,14 @@ loop-less c = search needs
 
 loop-again : tie.Need-loop-again Inv-loop μ-loop Inv-steps μ-steps
 loop-again c =
-    let g = c .before .before .before .before .before .before .before .before .before .before .before .before .args in
+    let asked = c .before .before .before .before .before .before .before in
+    let turn = asked .before .before in
+    let g = turn .before .before .before .args in
     let l = c .before .before .before .loop in
-    let s = c .before .before .before .before .before .before .before .before .before .steps .s in
-    let may = tried (g .columns) (g .needs .now) (g .lands .now) (g .costs .now) (g .sets .now) (g .dist .now) (g .a .0) s (g .count) _ (c .before .before .before .before .before .before .before .to-try .ensures) (l .b) (c .before .before .loop-test .taken) .0 in
+    let s = turn .steps .s in
+    let may =
+    tried (g .columns) (g .needs .now) (g .lands .now) (g .costs .now) (g .sets .now) (g .dist .now) (g .a .0) s (g .count) _ (asked .to-try .ensures)
+    (l .b) (c .before .before .loop-test .taken) .0 in
     (omega arith, first-more _ (l .b) (l .inv .1) (next-no _ s (l .b) _ (c .before .fits2 .ensures ∙ fits-rest (g .columns) (g .needs .now) (g .lands .now) (g .costs .now) (g .sets .now) (g .dist .now) (g .a .0) s (l .b) _ may (c .before .before .before .before .after .ensures)) (c .if1 .left)))
 
 add-s : tie.Need-add-s Inv-loop μ-loop Inv-steps μ-steps
@@ -83,11 +92,16 @@ steps-less c = search needs
 
 steps-again : tie.Need-steps-again Inv-loop μ-loop Inv-steps μ-steps
 steps-again c =
-    let g = c .before .before .before .before .before .before .before .before .before .before .args in
+    let asked = c .before .before .before .before .before in
+    let turn = asked .before .before in
+    let g = turn .before .before .before .args in
     let l = c .before .loop in
-    let s = c .before .before .before .before .before .before .before .steps in
-    let e : l .b ≡ c .before .before .before .before .before .to-try .result = omega arith in
-    (omega arith, first-more _ (s .s) (s .inv .1) (none-found (g .columns) (g .needs .now) (g .lands .now) (g .costs .now) (g .sets .now) (g .dist .now) (g .a .0) (s .s) (g .count) _ (c .before .before .before .before .before .to-try .ensures) (rw e at (l .inv .1))))
+    let s = turn .steps in
+    let e : l .b ≡ asked .to-try .result = omega arith in (
+      omega arith,
+      first-more _ (s .s) (s .inv .1) (none-found (g .columns) (g .needs .now) (g .lands .now) (g .costs .now) (g .sets .now) (g .dist .now)
+          (g .a .0) (s .s) (g .count) _ (asked .to-try .ensures) (rw e at (l .inv .1))),
+    )
 
 cast-t27 : tie.Need-cast-t27 Inv-loop μ-loop Inv-steps μ-steps
 cast-t27 c = search needs
@@ -95,7 +109,7 @@ cast-t27 c = search needs
 cast-t29 : tie.Need-cast-t29 Inv-loop μ-loop Inv-steps μ-steps
 cast-t29 c =
     let g = c .before .before .before .before .before .before .args in
-    let k : c .before .before .steps-test .b < 65536 =
+    let k : c .before .before .steps-test .b < limits .blocks =
     ⊎-elim
     (λ w. absurd (omega (arith, w .0 .left, c .before .if2 .taken)))
     (λ w. omega (arith, w .9, tried (g .columns) (g .needs .now) (g .lands .now) (g .costs .now) (g .sets .now) (g .dist .now) (g .a .0) (c .before .before .before .steps .s) (g .count) _ (w .1 .ensures) (w .5 .b) (w .6 .taken) .1, c .before .before .before .before .before .before .pre .3))
