@@ -11,12 +11,13 @@ use lib.Bits.{bitAnd}
 use lib.ListN.{getD}
 use borrow.Author.Tests.{eqb-true, not-true}
 use Rattle.task.specs.Loops.{all}
+use Rattle.task.specs.Sizes.{limits}
 use Rattle.task.proofs.LoopLaws.{below-suc, true-or-false, and-left, all-at, all-intro, all-false, all-fails}
 use Rattle.blocks.specs.Blocks.{common, isEmpty}
 use Rattle.blocks.specs.Flat.{past, rowOf}
 use Rattle.blocks.specs.Masks.{lies, allLie, passes, leadsBy}
 use Rattle.arcs.specs.Arcs.{fitsIn, keeps, parted, keptMeet}
-use Rattle.arcs.specs.Words.{wordOf, bitAt, meetsIn, keptPart, keptWord, arcWord, told, toldIn, wideIn, Able, Met, Opened, Narrow}
+use Rattle.arcs.specs.Words.{word, words, wordOf, bitAt, meetsIn, keptPart, keptWord, arcWord, told, toldIn, wideIn, Able, Met, Opened, Narrow}
 use Rattle.arcs.proofs.WordLaws.{word-and, word-same, word-told}
 
 -- ---- an arc in three parts: of the step and the first block, of the step and the second, and of the two blocks
@@ -54,7 +55,8 @@ module _ (narrow lands meets : List ℕ) (s w v : ℕ) where
   unfolding keptWord
   kept-none = refl
 
-  pub kept-more : (i x r : ℕ) → x ≡ keptWord narrow lands meets s w v i → r ≡ keptPart x (past lands (rowOf s) (getD narrow i 0)) (getD meets (getD narrow i 0 * 8 + w) 0) → r ≡ keptWord narrow lands meets s w v (i + 1)
+  pub kept-more : (i x r : ℕ) → x ≡ keptWord narrow lands meets s w v i
+      → r ≡ keptPart x (past lands (rowOf s) (getD narrow i 0)) (getD meets (getD narrow i 0 * words + w) 0) → r ≡ keptWord narrow lands meets s w v (i + 1)
   unfolding keptWord
   kept-more i x r e h = rw (add-one, ← e) h
 
@@ -78,7 +80,8 @@ listMeet : ℕ → List ℕ → List ℕ → List ℕ → ℕ → ℕ → ℕ �
 listMeet n N lands sets s b a = all n (λ i. not (keeps lands s (getD N i 0) && parted sets b a (getD N i 0)))
 
 module _ (columns used : ℕ) (lands sets : List ℕ) (b : ℕ) (M : List ℕ) (met : Met columns used sets (past sets (rowOf b)) M) where
-  part-is : (s w : ℕ) → w < used → (f : ℕ → Bool) (j : ℕ) → j < columns → keptPart (wordOf f w) (past lands (rowOf s) j) (getD M (j * 8 + w) 0) ≡ wordOf (λ a. f a && not (keeps lands s j && parted sets b a j)) w
+  part-is : (s w : ℕ) → w < used → (f : ℕ → Bool) (j : ℕ) → j < columns
+      → keptPart (wordOf f w) (past lands (rowOf s) j) (getD M (j * words + w) 0) ≡ wordOf (λ a. f a && not (keeps lands s j && parted sets b a j)) w
   unfolding keptPart keeps parted meetsIn
   part-is s w hw f j h = ⊎-elim
       (λ (t : isEmpty (past lands (rowOf s) j) ≡ true). rw (t, met .each j w h hw) (word-and f _ w))
@@ -89,20 +92,21 @@ module _ (columns used : ℕ) (lands sets : List ℕ) (b : ℕ) (M : List ℕ) (
   unfolding keptWord listMeet all
   kept-is s w hw N f v e zero h = e ∙ word-same _ _ w (λ a. sym (and-true (f a)))
   kept-is s w hw N f v e (suc n) h =
-      ap (λ (x : ℕ). keptPart x (past lands (rowOf s) (getD N n 0)) (getD M (getD N n 0 * 8 + w) 0)) (kept-is s w hw N f v e n (λ i l. h i (omega arith)))
+      ap (λ (x : ℕ). keptPart x (past lands (rowOf s) (getD N n 0)) (getD M (getD N n 0 * words + w) 0)) (kept-is s w hw N f v e n (λ i l. h i (omega arith)))
       ∙ part-is s w hw (λ a. f a && listMeet n N lands sets s b a) (getD N n 0) (h n (omega arith))
       ∙ word-same _ _ w (λ a. and-assoc (f a) (listMeet n N lands sets s b a) (not (keeps lands s (getD N n 0) && parted sets b a (getD N n 0))))
 
-  module _ (has : ℕ → Bool) (O : List ℕ) (o : Opened used has O) (a : ℕ) (ha : a / 32 < used) (open-is : has a ≡ true) where
+  module _ (has : ℕ → Bool) (O : List ℕ) (o : Opened used has O) (a : ℕ) (ha : a / word < used) (open-is : has a ≡ true) where
     -- in a wide column an open block is not apart
     wide-meets : (j : ℕ) → j < columns → wideIn used M O j ≡ true → parted sets b a j ≡ false
     unfolding wideIn allLie lies common past
     wide-meets j h t =
-        let w = a / 32 in
-        let l : lies (past O 0 w) (past M (j * 8) w) ≡ true = all-at used _ t w ha in
-        let e : bitAnd (getD M (j * 8 + w) 0) (getD O w 0) ≡ getD O w 0 = eqb-true _ _ (rw (zero-add w) at l) in
+        let w = a / word in
+        let l : lies (past O 0 w) (past M (j * words) w) ≡ true = all-at used _ t w ha in
+        let e : bitAnd (getD M (j * words + w) 0) (getD O w 0) ≡ getD O w 0 = eqb-true _ _ (rw (zero-add w) at l) in
         let f : wordOf (λ c. meetsIn sets (past sets (rowOf b) j) j c && has c) w ≡ wordOf has w = sym (word-and _ _ w) ∙ ap₂ bitAnd (sym (met .each j w h ha)) (sym (o .each w ha)) ∙ e ∙ o .each w ha in
-        let g : (meetsIn sets (past sets (rowOf b) j) j a && has a) ≡ has a = sym (word-told (λ c. meetsIn sets (past sets (rowOf b) j) j c && has c) a) ∙ ap (λ (x : ℕ). bitAt x (a % 32)) f ∙ word-told has a in
+        let g : (meetsIn sets (past sets (rowOf b) j) j a && has a) ≡ has a =
+        sym (word-told (λ c. meetsIn sets (past sets (rowOf b) j) j c && has c) a) ∙ ap (λ (x : ℕ). bitAt x (a % word)) f ∙ word-told has a in
         not-apart sets a b j (and-left _ (has a) (g ∙ open-is))
 
     list-meets : (few : ℕ) (N : List ℕ) (s : ℕ) → Narrow columns used M O few N → listMeet few N lands sets s b a ≡ keptMeet columns lands sets s b a
@@ -134,12 +138,13 @@ where-open false h x y e = refl
 -- with the tables right, the words tell an arc from an open block
 pub arc-told : (columns steps used few : ℕ) (needs lands sets : List ℕ) (b : ℕ) (T M O N : List ℕ) (has : ℕ → Bool)
     → Able columns steps needs sets used T → Met columns used sets (past sets (rowOf b)) M → Opened used has O → Narrow columns used M O few N
-    → (s a : ℕ) → s < steps → a / 32 < used → toldIn columns few N lands sets T M O s b a ≡ (has a && leadsBy columns needs lands sets s a b)
+    → (s a : ℕ) → s < steps → a / word < used → toldIn columns few N lands sets T M O s b a ≡ (has a && leadsBy columns needs lands sets s a b)
 unfolding toldIn told arcWord
 arc-told columns steps used few needs lands sets b T M O N has t m o n s a hs ha =
     let f : ℕ → Bool = λ c. fitsIn columns needs sets s c && has c in
-    let e : bitAnd (getD T (a / 32 * 128 + s) 0) (getD O (a / 32) 0) ≡ wordOf f (a / 32) = rw (t .each (a / 32) s ha hs, o .each (a / 32) ha) (word-and _ _ (a / 32)) in
-    let k = kept-is columns used lands sets b M m s (a / 32) ha N f _ e few (n .each) in
+    let e : bitAnd (getD T (a / word * limits .steps + s) 0) (getD O (a / word) 0) ≡ wordOf f (a / word) =
+    rw (t .each (a / word) s ha hs, o .each (a / word) ha) (word-and _ _ (a / word)) in
+    let k = kept-is columns used lands sets b M m s (a / word) ha N f _ e few (n .each) in
     rw k (ap (λ (x : Bool). fitsIn columns lands sets s b && x)
     (word-told (λ c. f c && listMeet few N lands sets s b c) a
     ∙ where-open (fitsIn columns needs sets s a) (has a) _ _ (λ h. list-meets columns used lands sets b M m has O o a ha h few N s n))
@@ -147,10 +152,11 @@ arc-told columns steps used few needs lands sets b T M O N has t m o n s a hs ha
     ∙ ap (λ (x : Bool). has a && x) (sym (lead-split columns needs lands sets s a b)))
 
 -- a block of word w, by that word
-pub told-word : (few : ℕ) (narrow lands able meets left : List ℕ) (s w v i : ℕ) → i < 32 → v ≡ keptWord narrow lands meets s w (bitAnd (getD able (w * 128 + s) 0) (getD left w 0)) few
-    → told few narrow lands able meets left s (w * 32 + i) ≡ bitAt v i
+pub told-word : (few : ℕ) (narrow lands able meets left : List ℕ) (s w v i : ℕ) → i < word
+    → v ≡ keptWord narrow lands meets s w (bitAnd (getD able (w * limits .steps + s) 0) (getD left w 0)) few
+    → told few narrow lands able meets left s (w * word + i) ≡ bitAt v i
 unfolding told arcWord
 told-word few narrow lands able meets left s w v i h e =
-    let q : (w * 32 + i) / 32 ≡ w = omega arith in
-    let r : (w * 32 + i) % 32 ≡ i = omega arith in
+    let q : (w * word + i) / word ≡ w = omega arith in
+    let r : (w * word + i) % word ≡ i = omega arith in
     rw (q, r, e)

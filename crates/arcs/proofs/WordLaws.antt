@@ -16,13 +16,14 @@ use lib.Seq.{getD-set-same, getD-set-other}
 use borrow.Author.Tests.{eq-eqb, ne-eqb}
 use borrow.Author.Count.{below-none, below-more}
 use Rattle.task.specs.Loops.{all}
+use Rattle.task.specs.Sizes.{limits}
 use Rattle.task.proofs.LoopLaws.{below-suc, true-or-false}
 use Rattle.blocks.specs.Blocks.{common, isEmpty}
 use Rattle.blocks.specs.Flat.{past, rowOf}
 use Rattle.blocks.specs.Masks.{lies, allLie}
 use Rattle.blocks.proofs.PartLaws.{same-or-not}
 use Rattle.arcs.specs.Arcs.{fitsIn}
-use Rattle.arcs.specs.Words.{bitsBelow, nth, wordOf, bitAt, needIn, meetsIn, heldIn, Able, RowAble, Met, RowMet, wideIn, Listed, Narrow}
+use Rattle.arcs.specs.Words.{word, words, bitsBelow, nth, wordOf, bitAt, needIn, meetsIn, heldIn, Able, RowAble, Met, RowMet, wideIn, Listed, Narrow}
 
 -- ---- masks of tests
 bit : Bool → ℕ
@@ -117,30 +118,30 @@ bit-told f i k h = ⊎-elim has lacks (true-or-false (f i))
 -- ---- words
 pub word-and : (f g : ℕ → Bool) (w : ℕ) → bitAnd (wordOf f w) (wordOf g w) ≡ wordOf (λ a. f a && g a) w
 unfolding wordOf nth
-word-and f g w = and-bits _ _ 32
+word-and f g w = and-bits _ _ word
 
 pub word-same : (f g : ℕ → Bool) (w : ℕ) → ((a : ℕ) → f a ≡ g a) → wordOf f w ≡ wordOf g w
 unfolding wordOf nth
-word-same f g w h = bits-same _ _ 32 (λ i l. h (w * 32 + i))
+word-same f g w h = bits-same _ _ word (λ i l. h (w * word + i))
 
 pub word-zero : (f : ℕ → Bool) (w : ℕ) → ((a : ℕ) → f a ≡ false) → wordOf f w ≡ 0
 unfolding wordOf nth
-word-zero f w h = bits-zero _ 32 (λ i l. h (w * 32 + i))
+word-zero f w h = bits-zero _ word (λ i l. h (w * word + i))
 
 pub word-all : (f : ℕ → Bool) (w : ℕ) → ((a : ℕ) → f a ≡ true) → wordOf f w ≡ 4294967295
 unfolding wordOf nth
-word-all f w h = bits-all _ 32 (λ i l. h (w * 32 + i))
+word-all f w h = bits-all _ word (λ i l. h (w * word + i))
 
 -- block a in its word
-pub word-told : (f : ℕ → Bool) (a : ℕ) → bitAt (wordOf f (a / 32)) (a % 32) ≡ f a
+pub word-told : (f : ℕ → Bool) (a : ℕ) → bitAt (wordOf f (a / word)) (a % word) ≡ f a
 unfolding wordOf nth
 word-told f a =
-    let e : a / 32 * 32 + a % 32 ≡ a = omega arith in
-    bit-told (λ i. f (a / 32 * 32 + i)) (a % 32) 32 (omega arith) ∙ ap f e
+    let e : a / word * word + a % word ≡ a = omega arith in
+    bit-told (λ i. f (a / word * word + i)) (a % word) word (omega arith) ∙ ap f e
 
 -- ---- a word that is made bit by bit: its first i bits
 pub record Begun (f : ℕ → Bool) (w i v : ℕ) : Type 0 where
-  pub within : i ≤ 32
+  pub within : i ≤ word
   pub bits : v ≡ bitsBelow (nth f w) i
 
 module _ (f : ℕ → Bool) (w : ℕ) where
@@ -148,12 +149,12 @@ module _ (f : ℕ → Bool) (w : ℕ) where
   unfolding bitsBelow
   begun-none = record { within = omega arith; bits = refl }
 
-  pub begun-end : {i v : ℕ} → Begun f w i v → 32 ≤ i → v ≡ wordOf f w
+  pub begun-end : {i v : ℕ} → Begun f w i v → word ≤ i → v ≡ wordOf f w
   unfolding wordOf
-  begun-end {i} p h = let l = p .within in let e : i ≡ 32 = omega arith in rw e at (p .bits)
+  begun-end {i} p h = let l = p .within in let e : i ≡ word = omega arith in rw e at (p .bits)
 
   -- one bit more, by the test of its block
-  module _ {i v r : ℕ} {t : Bool} (p : Begun f w i v) (more : i < 32) (test : t ≡ f (w * 32 + i)) (new : r ≡ cond t (2 ^ i) 0) where
+  module _ {i v r : ℕ} {t : Bool} (p : Begun f w i v) (more : i < word) (test : t ≡ f (w * word + i)) (new : r ≡ cond t (2 ^ i) 0) where
     pub begun-more : Begun f w (i + 1) (v + r)
     unfolding bitsBelow nth
     begun-more = record { within = omega arith; bits = rw (add-one, p .bits, new, test) refl }
@@ -161,7 +162,7 @@ module _ (f : ℕ → Bool) (w : ℕ) where
     pub begun-room : v + r < 4294967296
     begun-room =
         let l = bits-lt (nth f w) (i + 1) in
-        let s : 2 ^ (i + 1) ≤ 2 ^ 32 = pow-mono {i = i + 1} {j = 32} (omega arith) in
+        let s : 2 ^ (i + 1) ≤ 2 ^ word = pow-mono {i = i + 1} {j = word} (omega arith) in
         omega (arith, begun-more .bits)
 
 -- a need that is none is held by every block
@@ -169,7 +170,7 @@ pub no-need : (v : ℕ) (sets : List ℕ) (j w : ℕ) → v < 4294967296 → v �
 unfolding needIn lies common
 no-need v sets j w h =
     let e = word-all (needIn sets 0 j) w (λ a. rw (and-zero-r (past sets (rowOf a) j))) in
-    let m : bitAnd v 4294967295 ≡ v % 4294967296 = and-mask v 32 in
+    let m : bitAnd v 4294967295 ≡ v % 4294967296 = and-mask v word in
     sym (rw e (m ∙ omega arith))
 
 -- ---- tables filled from the front
@@ -193,12 +194,13 @@ module _ (columns steps : ℕ) (needs sets : List ℕ) where
   pub able-none : (T : List ℕ) → Able columns steps needs sets 0 T
   able-none T = record { each = λ w s l. absurd (not-suc-le-zero l) }
 
-  pub able-more : (w : ℕ) (T T′ : List ℕ) → steps ≤ 128 → Able columns steps needs sets w T → RowAble columns steps needs sets w T T′ → Able columns steps needs sets (w + 1) T′
+  pub able-more : (w : ℕ) (T T′ : List ℕ) → steps ≤ limits .steps → Able columns steps needs sets w T → RowAble columns steps needs sets w T T′
+      → Able columns steps needs sets (w + 1) T′
   able-more w T T′ h t r =
       record {
         each = λ x s l b.
-            below-more (λ y. getD T′ (y * 128 + s) 0 ≡ wordOf (fitsIn columns needs sets s) y) w
-            (λ y v. r .before (y * 128 + s) (omega arith) ∙ t .each y s v b)
+            below-more (λ y. getD T′ (y * limits .steps + s) 0 ≡ wordOf (fitsIn columns needs sets s) y) w
+            (λ y v. r .before (y * limits .steps + s) (omega arith) ∙ t .each y s v b)
             (r .each s b)
             x l;
       }
@@ -217,7 +219,8 @@ module _ (used : ℕ) (sets : List ℕ) where
     met-same f g M e m = record { each = λ j w h l. rw (← e j h) (m .each j w h l) }
 
     -- a row is renewed, and what it stands for is held
-    pub met-more : (j v : ℕ) (H M M′ : List ℕ) → used ≤ 8 → j < length H → Met columns used sets (heldIn H) M → RowMet used sets j v M M′ → Met columns used sets (heldIn (set H j v)) M′
+    pub met-more : (j v : ℕ) (H M M′ : List ℕ) → used ≤ words → j < length H → Met columns used sets (heldIn H) M → RowMet used sets j v M M′
+        → Met columns used sets (heldIn (set H j v)) M′
     unfolding heldIn
     met-more j v H M M′ u h m r =
         record {
@@ -231,13 +234,18 @@ module _ (used : ℕ) (sets : List ℕ) where
         above : (x y : ℕ) → (x < y → ⊥) → x ≢ y → y < x
         above x y l n = elim (decLt y x) [ yes k ↦ k | no k ↦ absurd (n (omega arith)) ]
 
-        apart : (x w : ℕ) → w < used → x ≢ j → getD M′ (x * 8 + w) 0 ≡ getD M (x * 8 + w) 0
-        apart x w k n = elim (decLt x j) [ yes l ↦ r .before (x * 8 + w) (omega arith) | no l ↦ r .after (x * 8 + w) (let z : j < x = above x j l n in omega arith) ]
+        apart : (x w : ℕ) → w < used → x ≢ j → getD M′ (x * words + w) 0 ≡ getD M (x * words + w) 0
+        apart x w k n =
+            elim (decLt x j) [
+              | yes l ↦ r .before (x * words + w) (omega arith)
+              | no l ↦ r .after (x * words + w)
+                  (let z : j < x = above x j l n in omega arith)
+            ]
 
     -- nothing meets the empty set
     pub met-zero : (H M : List ℕ) → ((j : ℕ) → getD H j 0 ≡ 0) → ((i : ℕ) → getD M i 0 ≡ 0) → Met columns used sets (heldIn H) M
     unfolding heldIn meetsIn common isEmpty
-    met-zero H M h m = record { each = λ j w l k. m (j * 8 + w) ∙ sym (word-zero _ w (λ a. rw (h j, and-zero-r (past sets (rowOf a) j)))) }
+    met-zero H M h m = record { each = λ j w l k. m (j * words + w) ∙ sym (word-zero _ w (λ a. rw (h j, and-zero-r (past sets (rowOf a) j)))) }
 
 -- ---- the narrow columns
 module _ (used : ℕ) (M O : List ℕ) where
@@ -274,5 +282,5 @@ module _ (used : ℕ) (M O : List ℕ) where
             others = below-more _ j (λ x h. old x h (n + 1) (omega arith)) (inr (n, omega arith, same));
           })
 
-  pub narrow-listed : (columns n : ℕ) (N : List ℕ) → columns ≤ 16 → Narrow columns used M O n N → Listed n N
+  pub narrow-listed : (columns n : ℕ) (N : List ℕ) → columns ≤ limits .columns → Narrow columns used M O n N → Listed n N
   narrow-listed columns n N h p = record { each = λ i l. let u = p .each i l in omega arith }

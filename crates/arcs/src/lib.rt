@@ -7,7 +7,8 @@ ghost use lib.ListN.{length};
 ghost use Rattle.task.specs.Sizes.{limits};
 ghost use Rattle.blocks.specs.Flat.{past, rowOf};
 ghost use Rattle.arcs.specs.Arcs.{fitsIn};
-ghost use Rattle.arcs.specs.Words.{words, wordOf, bitAt, needIn, meetsIn, heldIn, openIn, RowAble, Able, RowMet, Met, Opened, wideIn, Listed, Narrow, keptPart, keptWord};
+ghost use Rattle.arcs.specs.Words.{word, words, wordOf, bitAt, needIn, meetsIn, heldIn, openIn, RowAble, Able, RowMet, Met, Opened, wideIn, Listed};
+ghost use Rattle.arcs.specs.Words.{Narrow, keptPart, keptWord};
 use task::BlockSets;
 use task::ColumnSets;
 use task::Model;
@@ -20,7 +21,7 @@ pub const WORDS: usize = Model::BLOCKS / WORD;
 
 // The weight of a bit where a test passed, else 0.
 fn bit_if(t: bool, i: usize) -> u32
-    requires { ⌜ i < 32 ⌝ }
+    requires { ⌜ i < word ⌝ }
     ensures { λ r. ⌜ r ≡ cond t (2 ^ i) 0 ⌝ }
 {
     if t { 1 << i } else { 0 }
@@ -90,7 +91,8 @@ fn fill_row(
     able: &mut [u32; WORDS * Model::STEPS],
 )
     requires { ⌜ (columns ≤ limits .columns) × (steps ≤ limits .steps) × (w < words) × (length (now able) ≡ words * limits .steps) ⌝ }
-    ensures { λ _. ⌜ RowAble columns steps (now (needs .entry)) (now (sets .entry)) w (now (able .entry)) (now (able .exit)) ⌝ ∗ ⌜ length (now (able .exit)) ≡ words * limits .steps ⌝ }
+    ensures { λ _. ⌜ RowAble columns steps (now (needs .entry)) (now (sets .entry)) w (now (able .entry)) (now (able .exit)) ⌝
+        ∗ ⌜ length (now (able .exit)) ≡ words * limits .steps ⌝ }
 {
     let row = w * Model::STEPS;
     let mut s: usize = 0;
@@ -143,7 +145,8 @@ fn fill_column(
     meets: &mut [u32; Model::COLUMNS * WORDS],
 )
     requires { ⌜ (used ≤ words) × (j < limits .columns) × (length (now meets) ≡ limits .columns * words) ⌝ }
-    ensures { λ _. ⌜ RowMet used (now (sets .entry)) j set (now (meets .entry)) (now (meets .exit)) ⌝ ∗ ⌜ length (now (meets .exit)) ≡ limits .columns * words ⌝ }
+    ensures { λ _. ⌜ RowMet used (now (sets .entry)) j set (now (meets .entry)) (now (meets .exit)) ⌝
+        ∗ ⌜ length (now (meets .exit)) ≡ limits .columns * words ⌝ }
 {
     let row = j * WORDS;
     let mut w: usize = 0;
@@ -162,8 +165,10 @@ fn renew_column(
     sets: &BlockSets,
     meets: &mut [u32; Model::COLUMNS * WORDS],
 )
-    requires { ⌜ (used ≤ words) × (j < limits .columns) × (length (now meets) ≡ limits .columns * words) ⌝ ∗ ⌜ RowMet used (now sets) j old (now meets) (now meets) ⌝ }
-    ensures { λ _. ⌜ RowMet used (now (sets .entry)) j set (now (meets .entry)) (now (meets .exit)) ⌝ ∗ ⌜ length (now (meets .exit)) ≡ limits .columns * words ⌝ }
+    requires { ⌜ (used ≤ words) × (j < limits .columns) × (length (now meets) ≡ limits .columns * words) ⌝
+        ∗ ⌜ RowMet used (now sets) j old (now meets) (now meets) ⌝ }
+    ensures { λ _. ⌜ RowMet used (now (sets .entry)) j set (now (meets .entry)) (now (meets .exit)) ⌝
+        ∗ ⌜ length (now (meets .exit)) ≡ limits .columns * words ⌝ }
 {
     if old == set {
         return;
@@ -180,8 +185,12 @@ pub fn fill_meets(
     held: &mut ColumnSets,
     meets: &mut [u32; Model::COLUMNS * WORDS],
 )
-    requires { ⌜ (columns ≤ limits .columns) × (used ≤ words) × (b < limits .blocks) × (length (now held) ≡ limits .columns) × (length (now meets) ≡ limits .columns * words) ⌝ ∗ ⌜ Met columns used (now sets) (heldIn (now held)) (now meets) ⌝ }
-    ensures { λ _. ⌜ Met columns used (now (sets .entry)) (heldIn (now (held .exit))) (now (meets .exit)) ⌝ ∗ ⌜ Met columns used (now (sets .entry)) (past (now (sets .entry)) (rowOf b)) (now (meets .exit)) ⌝ ∗ ⌜ (length (now (held .exit)) ≡ limits .columns) × (length (now (meets .exit)) ≡ limits .columns * words) ⌝ }
+    requires { ⌜ (columns ≤ limits .columns) × (used ≤ words) × (b < limits .blocks) × (length (now held) ≡ limits .columns)
+        × (length (now meets) ≡ limits .columns * words) ⌝
+        ∗ ⌜ Met columns used (now sets) (heldIn (now held)) (now meets) ⌝ }
+    ensures { λ _. ⌜ Met columns used (now (sets .entry)) (heldIn (now (held .exit))) (now (meets .exit)) ⌝
+        ∗ ⌜ Met columns used (now (sets .entry)) (past (now (sets .entry)) (rowOf b)) (now (meets .exit)) ⌝
+        ∗ ⌜ (length (now (held .exit)) ≡ limits .columns) × (length (now (meets .exit)) ≡ limits .columns * words) ⌝ }
 {
     let rb = b * Model::COLUMNS;
     let mut j: usize = 0;
@@ -310,7 +319,7 @@ pub fn kept_word(
 
 // Whether bit i of a mask is 1.
 pub fn has_bit(v: u32, i: usize) -> bool
-    requires { ⌜ i < 32 ⌝ }
+    requires { ⌜ i < word ⌝ }
     ensures { λ r. ⌜ r ≡ bitAt v i ⌝ }
 {
     v & bit_if(true, i) != 0

@@ -1,3 +1,4 @@
+use Rattle.arcs.specs.Words.{word}
 use Rattle.blocks.proofs.MaskLaws.{shift-one}
 use borrow.Author.Needs.{needs}
 use Rattle.arcs.proofs.bit_if.Statement.{statement}
@@ -12,7 +13,7 @@ shl-result : tie.Need-shl-result
 shl-result c = search needs
 
 returns : tie.Need-returns
-returns c = rw (c .if1 .taken) (shift-one _ 32 (search needs))
+returns c = rw (c .if1 .taken) (shift-one _ word (search needs))
 
 returns-2 : tie.Need-returns-2
 returns-2 c = search needs

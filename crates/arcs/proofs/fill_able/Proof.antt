@@ -1,8 +1,9 @@
 use mathlib.Core.Path.{_≡_}
-use Prim.Native.Nat.{_≤_, _-_}
+use Prim.Native.Nat.{_≤_, _-_, _*_}
 use native.Mathlib.Omega.{arith}
 use lib.ListN.{length}
-use Rattle.arcs.specs.Words.{Able}
+use Rattle.task.specs.Sizes.{limits}
+use Rattle.arcs.specs.Words.{Able, words}
 use Rattle.arcs.proofs.WordLaws.{able-none, able-more}
 use borrow.Author.Needs.{needs}
 use Rattle.arcs.proofs.fill_able.Statement.{statement}
@@ -12,7 +13,7 @@ use Rattle.arcs.proofs.fill_able.Lts as lts
 use Rattle.arcs.proofs.fill_row.Reads as fill-row-reads
 
 abbrev Inv-loop : tie.InvT-loop
-Inv-loop columns steps used needs sets able₀ w₀ able w = (w ≤ used) × (length able ≡ 1024) × Able columns steps needs sets w able
+Inv-loop columns steps used needs sets able₀ w₀ able w = (w ≤ used) × (length able ≡ words * limits .steps) × Able columns steps needs sets w able
 
 abbrev μ-loop : tie.MeasureT-loop
 μ-loop columns steps used needs sets able₀ w₀ able w = used - w

@@ -3,8 +3,9 @@ use Prim.Native.Nat.{ℕ, _≤_, _<_, _-_, _+_, _*_}
 use native.Mathlib.Omega.{arith}
 use lib.ListN.{length, getD, length-set}
 use lib.Seq.{getD-set-other}
+use Rattle.task.specs.Sizes.{limits}
 use borrow.Author.Count.{below-none}
-use Rattle.arcs.specs.Words.{wordOf, meetsIn}
+use Rattle.arcs.specs.Words.{wordOf, meetsIn, words}
 use Rattle.arcs.proofs.WordLaws.{filled-more}
 use borrow.Author.Needs.{needs}
 use Rattle.arcs.proofs.fill_column.Statement.{statement}
@@ -15,8 +16,8 @@ use Rattle.arcs.proofs.meet_word.Reads as meet-word-reads
 
 abbrev Inv-loop : tie.InvT-loop
 Inv-loop used j set sets meets₀ row w₀ meets w =
-    (w ≤ used) × (length meets ≡ 128) × ((x : ℕ) → x < w → getD meets (j * 8 + x) 0 ≡ wordOf (meetsIn sets set j) x)
-    × ((i : ℕ) → i < j * 8 → getD meets i 0 ≡ getD meets₀ i 0) × ((i : ℕ) → (j + 1) * 8 ≤ i → getD meets i 0 ≡ getD meets₀ i 0)
+    (w ≤ used) × (length meets ≡ limits .columns * words) × ((x : ℕ) → x < w → getD meets (j * words + x) 0 ≡ wordOf (meetsIn sets set j) x)
+    × ((i : ℕ) → i < j * words → getD meets i 0 ≡ getD meets₀ i 0) × ((i : ℕ) → (j + 1) * words ≤ i → getD meets i 0 ≡ getD meets₀ i 0)
 
 abbrev μ-loop : tie.MeasureT-loop
 μ-loop used j set sets meets₀ row w₀ meets w = used - w
@@ -51,9 +52,9 @@ loop-again c =
     let l = c .before .before .loop in (
       omega arith,
       simp length-set (l .inv .1),
-      filled-more _ (j * 8) (l .w) _ (l .meets) (l .inv .2) (omega arith) (c .meet-word .ensures),
-      (λ i h. getD-set-other (l .meets) (j * 8 + l .w) i _ 0 (λ q. omega arith) ∙ l .inv .3 i h),
-      (λ i h. getD-set-other (l .meets) (j * 8 + l .w) i _ 0 (λ q. omega arith) ∙ l .inv .4 i h),
+      filled-more _ (j * words) (l .w) _ (l .meets) (l .inv .2) (omega arith) (c .meet-word .ensures),
+      (λ i h. getD-set-other (l .meets) (j * words + l .w) i _ 0 (λ q. omega arith) ∙ l .inv .3 i h),
+      (λ i h. getD-set-other (l .meets) (j * words + l .w) i _ 0 (λ q. omega arith) ∙ l .inv .4 i h),
     )
 
 returns : tie.Need-returns Inv-loop μ-loop

@@ -1,10 +1,11 @@
 use mathlib.Core.Path.{_≡_, refl}
-use Prim.Native.Nat.{ℕ, _≤_, _<_, _-_}
+use Prim.Native.Nat.{ℕ, _≤_, _<_, _-_, _*_}
 use native.Mathlib.Omega.{arith}
 use lib.ListN.{length, getD, length-set}
+use Rattle.task.specs.Sizes.{limits}
 use borrow.Author.Count.{below-none}
 use Rattle.blocks.specs.Flat.{past, rowOf}
-use Rattle.arcs.specs.Words.{heldIn, Met}
+use Rattle.arcs.specs.Words.{heldIn, Met, words}
 use Rattle.arcs.proofs.WordLaws.{filled-first, met-row, met-same, met-more}
 use borrow.Author.Needs.{needs}
 use Rattle.arcs.proofs.fill_meets.Statement.{statement}
@@ -15,7 +16,8 @@ use Rattle.arcs.proofs.renew_column.Reads as renew-column-reads
 
 abbrev Inv-loop : tie.InvT-loop
 Inv-loop columns used b sets held₀ meets₀ rb j₀ held meets j =
-    (j ≤ columns) × (length held ≡ 16) × (length meets ≡ 128) × ((x : ℕ) → x < j → getD held x 0 ≡ past sets (rowOf b) x) × Met columns used sets (heldIn held) meets
+    (j ≤ columns) × (length held ≡ limits .columns) × (length meets ≡ limits .columns * words)
+    × ((x : ℕ) → x < j → getD held x 0 ≡ past sets (rowOf b) x) × Met columns used sets (heldIn held) meets
 
 abbrev μ-loop : tie.MeasureT-loop
 μ-loop columns used b sets held₀ meets₀ rb j₀ held meets j = columns - j
@@ -61,11 +63,12 @@ loop-less c = search needs
 loop-again : tie.Need-loop-again Inv-loop μ-loop
 unfolding past
 loop-again c =
-    let l = c .before .before .before .before .before .loop in (
+    let l = c .before .before .before .before .before .loop in
+    let g = c .before .before .before .before .before .before .args in (
       omega arith,
       simp length-set (l .inv .1),
       c .renew-column .ensures .1,
-      filled-first (past (c .before .before .before .before .before .before .args .sets .now) (rowOf (c .before .before .before .before .before .before .args .b))) (l .j) _ (l .held) (l .inv .3) (omega arith) refl,
+      filled-first (past (g .sets .now) (rowOf (g .b))) (l .j) _ (l .held) (l .inv .3) (omega arith) refl,
       met-more _ _ _ (l .j) _ (l .held) _ _ (c .before .before .before .before .before .before .pre .0 .1) (omega arith) (l .inv .4) (c .renew-column .ensures .0),
     )
 

@@ -2,6 +2,7 @@ use mathlib.Core.Path.{_≡_}
 use Prim.Native.Nat.{_≤_, _-_}
 use native.Mathlib.Omega.{arith}
 use lib.ListN.{length, length-set}
+use Rattle.task.specs.Sizes.{limits}
 use Rattle.arcs.specs.Words.{Narrow}
 use Rattle.arcs.proofs.WordLaws.{narrow-none, narrow-more}
 use borrow.Author.Needs.{needs}
@@ -13,7 +14,7 @@ use Rattle.arcs.proofs.is_wide.Reads as is-wide-reads
 use Rattle.arcs.proofs.one_unless.Reads as one-unless-reads
 
 abbrev Inv-loop : tie.InvT-loop
-Inv-loop columns used meets left narrow₀ few₀ j₀ narrow few j = (j ≤ columns) × (length narrow ≡ 16) × Narrow j used meets left few narrow
+Inv-loop columns used meets left narrow₀ few₀ j₀ narrow few j = (j ≤ columns) × (length narrow ≡ limits .columns) × Narrow j used meets left few narrow
 
 abbrev μ-loop : tie.MeasureT-loop
 μ-loop columns used meets left narrow₀ few₀ j₀ narrow few j = columns - j

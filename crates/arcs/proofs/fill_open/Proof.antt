@@ -3,7 +3,7 @@ use Prim.Native.Nat.{ℕ, _≤_, _<_, _-_}
 use native.Mathlib.Omega.{arith}
 use lib.ListN.{length, getD, length-set}
 use borrow.Author.Count.{below-none}
-use Rattle.arcs.specs.Words.{wordOf, openIn}
+use Rattle.arcs.specs.Words.{wordOf, openIn, words}
 use Rattle.arcs.proofs.WordLaws.{filled-first}
 use borrow.Author.Needs.{needs}
 use Rattle.arcs.proofs.fill_open.Statement.{statement}
@@ -13,7 +13,7 @@ use Rattle.arcs.proofs.fill_open.Lts as lts
 use Rattle.arcs.proofs.open_word.Reads as open-word-reads
 
 abbrev Inv-loop : tie.InvT-loop
-Inv-loop count used done left₀ w₀ left w = (w ≤ used) × (length left ≡ 8) × ((x : ℕ) → x < w → getD left x 0 ≡ wordOf (openIn count done) x)
+Inv-loop count used done left₀ w₀ left w = (w ≤ used) × (length left ≡ words) × ((x : ℕ) → x < w → getD left x 0 ≡ wordOf (openIn count done) x)
 
 abbrev μ-loop : tie.MeasureT-loop
 μ-loop count used done left₀ w₀ left w = used - w

@@ -3,9 +3,10 @@ use Prim.Native.Nat.{ℕ, _≤_, _<_, _-_, _+_, _*_}
 use native.Mathlib.Omega.{arith}
 use lib.ListN.{length, getD, length-set}
 use lib.Seq.{getD-set-other}
+use Rattle.task.specs.Sizes.{limits}
 use borrow.Author.Count.{below-none}
 use Rattle.arcs.specs.Arcs.{fitsIn}
-use Rattle.arcs.specs.Words.{wordOf}
+use Rattle.arcs.specs.Words.{wordOf, words}
 use Rattle.arcs.proofs.WordLaws.{filled-more}
 use borrow.Author.Needs.{needs}
 use Rattle.arcs.proofs.fill_row.Statement.{statement}
@@ -16,7 +17,8 @@ use Rattle.arcs.proofs.able_word.Reads as able-word-reads
 
 abbrev Inv-loop : tie.InvT-loop
 Inv-loop columns steps w needs sets able₀ row s₀ able s =
-    (s ≤ steps) × (length able ≡ 1024) × ((x : ℕ) → x < s → getD able (w * 128 + x) 0 ≡ wordOf (fitsIn columns needs sets x) w) × ((i : ℕ) → i < w * 128 → getD able i 0 ≡ getD able₀ i 0)
+    (s ≤ steps) × (length able ≡ words * limits .steps) × ((x : ℕ) → x < s → getD able (w * limits .steps + x) 0 ≡ wordOf (fitsIn columns needs sets x) w)
+    × ((i : ℕ) → i < w * limits .steps → getD able i 0 ≡ getD able₀ i 0)
 
 abbrev μ-loop : tie.MeasureT-loop
 μ-loop columns steps w needs sets able₀ row s₀ able s = steps - s
@@ -47,12 +49,14 @@ loop-less c = search needs
 
 loop-again : tie.Need-loop-again Inv-loop μ-loop
 loop-again c =
-    let w = c .before .before .before .args .w in
+    let g = c .before .before .before .args in
+    let w = g .w in
     let l = c .before .before .loop in (
       omega arith,
       simp length-set (l .inv .1),
-      filled-more (λ x. wordOf (fitsIn (c .before .before .before .args .columns) (c .before .before .before .args .needs .now) (c .before .before .before .args .sets .now) x) w) (w * 128) (l .s) _ (l .able) (l .inv .2) (omega arith) (c .able-word .ensures),
-      (λ i h. getD-set-other (l .able) (w * 128 + l .s) i _ 0 (λ q. omega arith) ∙ l .inv .3 i h),
+      filled-more (λ x. wordOf (fitsIn (g .columns) (g .needs .now) (g .sets .now) x) w) (w * limits .steps) (l .s) _ (l .able) (l .inv .2) (omega arith)
+          (c .able-word .ensures),
+      (λ i h. getD-set-other (l .able) (w * limits .steps + l .s) i _ 0 (λ q. omega arith) ∙ l .inv .3 i h),
     )
 
 returns : tie.Need-returns Inv-loop μ-loop

@@ -1,7 +1,7 @@
 use mathlib.Core.Path.{refl}
 use Prim.Native.Nat.{_-_}
 use native.Mathlib.Omega.{arith}
-use Rattle.arcs.specs.Words.{meetsIn}
+use Rattle.arcs.specs.Words.{meetsIn, word}
 use Rattle.arcs.proofs.WordLaws.{Begun, begun-none, begun-more, begun-room, begun-end}
 use Rattle.blocks.specs.Flat.{past}
 use Rattle.blocks.specs.Blocks.{common, isEmpty}
@@ -16,7 +16,7 @@ abbrev Inv-loop : tie.InvT-loop
 Inv-loop w j set sets v₀ i₀ v i = Begun (meetsIn sets set j) w i v
 
 abbrev μ-loop : tie.MeasureT-loop
-μ-loop w j set sets v₀ i₀ v i = 32 - i
+μ-loop w j set sets v₀ i₀ v i = word - i
 
 loop-holds : tie.Need-loop-holds Inv-loop μ-loop
 loop-holds c = begun-none _ _

@@ -1,6 +1,6 @@
 use Prim.Native.Nat.{_-_}
 use native.Mathlib.Omega.{arith}
-use Rattle.arcs.specs.Words.{needIn}
+use Rattle.arcs.specs.Words.{needIn, word}
 use Rattle.arcs.proofs.WordLaws.{Begun, begun-none, begun-more, begun-room, begun-end}
 use Rattle.blocks.specs.Flat.{past}
 use borrow.Author.Needs.{needs}
@@ -15,7 +15,7 @@ abbrev Inv-loop : tie.InvT-loop
 Inv-loop w j need sets v₀ i₀ v i = Begun (needIn sets need j) w i v
 
 abbrev μ-loop : tie.MeasureT-loop
-μ-loop w j need sets v₀ i₀ v i = 32 - i
+μ-loop w j need sets v₀ i₀ v i = word - i
 
 loop-holds : tie.Need-loop-holds Inv-loop μ-loop
 loop-holds c = begun-none _ _

@@ -1,6 +1,6 @@
 use Prim.Native.Nat.{_-_}
 use native.Mathlib.Omega.{arith}
-use Rattle.arcs.specs.Words.{openIn}
+use Rattle.arcs.specs.Words.{openIn, word}
 use Rattle.arcs.proofs.WordLaws.{Begun, begun-none, begun-more, begun-room, begun-end}
 use borrow.Author.Needs.{needs}
 use Rattle.arcs.proofs.open_word.Statement.{statement}
@@ -14,7 +14,7 @@ abbrev Inv-loop : tie.InvT-loop
 Inv-loop count w done v₀ i₀ v i = Begun (openIn count done) w i v
 
 abbrev μ-loop : tie.MeasureT-loop
-μ-loop count w done v₀ i₀ v i = 32 - i
+μ-loop count w done v₀ i₀ v i = word - i
 
 loop-holds : tie.Need-loop-holds Inv-loop μ-loop
 loop-holds c = begun-none _ _
