@@ -15,6 +15,7 @@ use Rattle.task.specs.Loops.{tab, over}
 use Rattle.task.specs.declared.Model.{Model}
 use Rattle.task.specs.Task.{Task, column, block, at, columnCount, sizeOf, perColumn}
 use Rattle.task.specs.Tables.{taskOf}
+use Rattle.task.specs.Sizes.{limits, blockPlaces}
 use Rattle.task.proofs.TaskLaws.{per-length}
 use Rattle.task.proofs.TableLaws.{columns-of, size-of}
 use Rattle.task.proofs.LoopLaws.{over-length, over-more, tab-at, tab-length, tab-ext, below-suc}
@@ -133,11 +134,12 @@ module _ (m : Model) (old : List ℕ) {sets : List ℕ} (e : sets ≡ over (whol
       ap (blocksIn (m .columns) 1) e
       ∙ subst (λ (k : ℕ). blocksIn k 1 (over (whole (taskOf m)) old) ≡ whole (taskOf m) ∷ []) (columns-of m) (first-made (taskOf m) old)
 
-  pub first-fills : columnCount (taskOf m) ≤ 16 → length old ≡ 4096 → length sets ≡ 4096
+  pub first-fills : columnCount (taskOf m) ≤ limits .columns → length old ≡ blockPlaces → length sets ≡ blockPlaces
   first-fills v l = ap length e ∙ first-long (taskOf m) old (omega (arith, l, v)) ∙ l
 
 -- ---- a cut made in the array
-module _ (columns count : ℕ) (c : Cut) (sets : List ℕ) (wide : columns ≤ 16) (room : count < 256) (made : c .block .0 < count) (there : c .column .0 < columns) (long : length sets ≡ 4096) where
+module _ (columns count : ℕ) (c : Cut) (sets : List ℕ) (wide : columns ≤ limits .columns) (room : count < limits .blocks)
+    (made : c .block .0 < count) (there : c .column .0 < columns) (long : length sets ≡ blockPlaces) where
   a : ℕ
   a = c .block .0
 
@@ -157,15 +159,15 @@ module _ (columns count : ℕ) (c : Cut) (sets : List ℕ) (wide : columns ≤ 1
   unfolding cutIn a j old copy with-new
   is = refl
 
-  copy-long : length copy ≡ 4096
+  copy-long : length copy ≡ blockPlaces
   unfolding copy
   copy-long = laid-length (past sets (rowOf a)) (rowOf count) sets columns ∙ long
 
-  new-long : length with-new ≡ 4096
+  new-long : length with-new ≡ blockPlaces
   unfolding with-new
   new-long = length-set copy (rowOf count + j) (common old (c .wanted)) ∙ copy-long
 
-  pub cut-in-length : length (cutIn columns count c sets) ≡ 4096
+  pub cut-in-length : length (cutIn columns count c sets) ≡ blockPlaces
   cut-in-length = rw is (length-set with-new (rowOf a + j) (without old (c .wanted)) ∙ new-long)
 
   at-rest : past (cutIn columns count c sets) (rowOf a) j ≡ without old (c .wanted)

@@ -14,6 +14,7 @@ use borrow.Author.Tests.{eq-eqb, ne-eqb}
 use Rattle.task.specs.declared.Block.{Block}
 use Rattle.task.specs.Loops.{tab}
 use Rattle.task.specs.Task.{Task, State, Accepted, block, position, at, columnCount, isState}
+use Rattle.task.specs.Sizes.{limits, blockPlaces}
 use Rattle.task.proofs.LoopLaws.{and-left, and-right, tab-length, below-suc}
 use Rattle.blocks.specs.declared.Cut.{Cut}
 use Rattle.blocks.specs.Blocks.{Blocks, blockAt, cutBlock, inBlock, whole, cutOk, cutsOk, cutAll, accepted, blocksOf, blockOf}
@@ -100,7 +101,8 @@ unfolding cutsIn
 cuts-length n l = tab-length n (cutAt l)
 
 -- an array that holds the blocks of some cuts holds those of one cut more after it is made
-pub cut-kept : (t : Task) (cs : List Cut) (c : Cut) (columns count : ℕ) (sets : List ℕ) → columns ≤ 16 → count < 256 → c .block .0 < count → c .column .0 < columns → length sets ≡ 4096
+pub cut-kept : (t : Task) (cs : List Cut) (c : Cut) (columns count : ℕ) (sets : List ℕ) → columns ≤ limits .columns → count < limits .blocks
+    → c .block .0 < count → c .column .0 < columns → length sets ≡ blockPlaces
     → blocksIn columns count sets ≡ blocksOf t cs → blocksIn columns (count + 1) (cutIn columns count c sets) ≡ blocksOf t (cs ++ (c ∷ []))
 cut-kept t cs c columns count sets w r m h l e = cut-made columns count c sets w r m h l ∙ rw e (sym (blocks-more t cs c))
 

@@ -21,6 +21,7 @@ use Rattle.task.specs.declared.Mark.{Mark}
 use Rattle.task.specs.declared.Model.{Model}
 use Rattle.task.specs.Task.{Task, Accepted, column, position, columnCount, stepCount, sizeOf, needAt, effectAt, goalAt, eachColumn}
 use Rattle.task.specs.Tables.{mark, marked, taskOf}
+use Rattle.task.specs.Sizes.{limits, stepPlaces}
 use Rattle.task.proofs.LoopLaws.{all-ext, tab-at}
 use Rattle.task.proofs.TableLaws.{columns-of, steps-of, goal-of, need-of, effect-of, marked-none, marked-some}
 use Rattle.blocks.specs.Blocks.{PositionSet, holds, only, common, isEmpty, leadsAt, goalIn, blockAt, leads, goalBlock}
@@ -86,17 +87,17 @@ pub mark-none : (k : Mark) → k .0 ≡ 0 → markSet k ≡ 0
 unfolding markSet
 mark-none k h = rw (eq-eqb (k .0) 0 h)
 
-pub mark-high : (k : Mark) → k .0 ≢ 0 → 32 < k .0 → markSet k ≡ 0
+pub mark-high : (k : Mark) → k .0 ≢ 0 → limits .positions < k .0 → markSet k ≡ 0
 unfolding markSet
-mark-high k n h = rw (ne-eqb (k .0) 0 n, lt-ltb 32 (k .0) h)
+mark-high k n h = rw (ne-eqb (k .0) 0 n, lt-ltb (limits .positions) (k .0) h)
 
-pub mark-low : (k : Mark) → k .0 ≢ 0 → k .0 ≤ 32 → markSet k ≡ only (position (k .0 - 1))
+pub mark-low : (k : Mark) → k .0 ≢ 0 → k .0 ≤ limits .positions → markSet k ≡ only (position (k .0 - 1))
 unfolding markSet
-mark-low k n h = rw (ne-eqb (k .0) 0 n, le-ltb 32 (k .0) h)
+mark-low k n h = rw (ne-eqb (k .0) 0 n, le-ltb (limits .positions) (k .0) h)
 
 -- a mark that names a position of a column
 Good : Mark → Type 0
-Good k = (p : Position) → marked k ≡ some p → p .0 < 32
+Good k = (p : Position) → marked k ≡ some p → p .0 < limits .positions
 
 mark-wants : (k : Mark) → Good k → markSet k ≡ wants (marked k)
 unfolding wants Good
@@ -128,18 +129,18 @@ module _ (m : Model) (v : Accepted (taskOf m)) where
       record {
         need = λ s j hs hj.
             let n = needs s j hs hj in
-            tab-at 2048 (needSet m) 0 (rowOf (s .0) + j .0) (inside s j hs hj)
+            tab-at stepPlaces (needSet m) 0 (rowOf (s .0) + j .0) (inside s j hs hj)
             ∙ mark-wants _ (good _ _ j hj n (λ p q. v .needs s j p hj q))
             ∙ ap wants (sym n);
         land = λ s j hs hj.
             let n = needs s j hs hj in
             let e = effects s j hs hj in
-            tab-at 2048 (landsSet m) 0 (rowOf (s .0) + j .0) (inside s j hs hj)
+            tab-at stepPlaces (landsSet m) 0 (rowOf (s .0) + j .0) (inside s j hs hj)
             ∙ land-wants _ _ (good _ _ j hj n (λ p q. v .needs s j p hj q)) (good _ _ j hj e (λ p q. v .effects s j p hj q))
             ∙ ap₂ landing (sym n) (sym e);
         goal = λ j hj.
             let g = goal-of m j (rw columns-of at hj) in
-            tab-at 16 (goalSet m) 0 (j .0) (omega (arith, v .columns .1))
+            tab-at (limits .columns) (goalSet m) 0 (j .0) (omega (arith, v .columns .1))
             ∙ mark-wants _ (good _ _ j hj g (λ p q. v .goals j p hj q))
             ∙ ap wants (sym g);
       }
@@ -150,7 +151,7 @@ module _ (m : Model) (v : Accepted (taskOf m)) where
       effects : (s : Step) (j : Column) → s .0 < stepCount (taskOf m) → j .0 < columnCount (taskOf m) → effectAt (taskOf m) s j ≡ marked (getD (m .effect) (rowOf (s .0) + j .0) (mark 0))
       effects s j hs hj = effect-of m s j (rw steps-of at hs) (rw columns-of at hj)
 
-      inside : (s : Step) (j : Column) → s .0 < stepCount (taskOf m) → j .0 < columnCount (taskOf m) → rowOf (s .0) + j .0 < 2048
+      inside : (s : Step) (j : Column) → s .0 < stepCount (taskOf m) → j .0 < columnCount (taskOf m) → rowOf (s .0) + j .0 < stepPlaces
       inside s j hs hj = omega (arith, v .steps, v .columns .1)
 
 -- ---- the tests on the tables are those on the task

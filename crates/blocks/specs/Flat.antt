@@ -1,12 +1,13 @@
--- The blocks and the cuts as code has them: flat arrays of numbers. Block a, column j stands at place a * 16 + j.
+-- The blocks and the cuts as code has them: flat arrays of numbers. The row of block a begins at place `rowOf a`, with a place for each column.
+use mathlib.Core.Path.{_≡_}
 use mathlib.Core.Bool.{Bool, _&&_, cond}
 use mathlib.Core.List.{List, [], _∷_}
-use Prim.Native.Nat.{ℕ, zero, suc, _+_, _*_}
+use Prim.Native.Nat.{ℕ, zero, suc, _+_, _*_, _<_, _≤_}
 use lib.Dec.{eqb}
-use lib.ListN.{getD, set}
+use lib.ListN.{length, getD, set}
 use Rattle.task.specs.Loops.{tab}
-use Rattle.task.specs.Sizes.{limits}
-use Rattle.task.specs.Task.{State, column, block, at}
+use Rattle.task.specs.Sizes.{limits, blockPlaces}
+use Rattle.task.specs.Task.{State, column, position, block, at}
 use Rattle.blocks.specs.declared.Cut.{Cut}
 use Rattle.blocks.specs.Blocks.{Sets, Blocks, holds, common, without}
 
@@ -38,6 +39,14 @@ cutIn columns count c sets =
     let copy = laid columns (past sets (rowOf (c .block .0))) (rowOf count) sets in
     set (set copy (rowOf count + c .column .0) (common old (c .wanted))) (rowOf (c .block .0) + c .column .0) (without old (c .wanted))
 
+-- a cut can be made in an array of so many blocks: there is room for one block more, and the block and the column are there
+pub record Cuttable (columns count : ℕ) (c : Cut) (sets : List ℕ) : Type 0 where
+  pub wide : columns ≤ limits .columns
+  pub room : count < limits .blocks
+  pub made : c .block .0 < count
+  pub there : c .column .0 < columns
+  pub long : length sets ≡ blockPlaces
+
 abbrev pub cut : ℕ → ℕ → ℕ → Cut
 cut a j w = record { block = block a; column = column j; wanted = w }
 
@@ -51,6 +60,16 @@ cutAt l i = cut (getD l (i * 3) 0) (getD l (i * 3 + 1) 0) (getD l (i * 3 + 2) 0)
 
 unfoldable pub cutsIn : ℕ → List ℕ → List Cut
 cutsIn count l = tab count (cutAt l)
+
+-- a list of cuts can be followed: they are so few, they stand there, and each is on a column that a model can have
+pub record Followable (count : ℕ) (l : List ℕ) : Type 0 where
+  pub few : count < limits .blocks
+  pub long : count * 3 ≤ length l
+  pub columns : (i : ℕ) → i < count → getD l (i * 3 + 1) 0 < limits .columns
+
+-- in the columns of the cuts a state stands at positions that a column can have
+pub record Placed (count : ℕ) (l : List ℕ) (x : State) : Type 0 where
+  pub each : (i : ℕ) → i < count → getD x (getD l (i * 3 + 1) 0) (position 0) .0 < limits .positions
 
 -- the block of a state, cut by cut: a wanted state of the block that is cut goes to the new number
 unfoldable pub goesOn : Cut → State → ℕ → Bool

@@ -47,9 +47,9 @@ parts wanted old = not (isEmpty wanted) && isEmpty (without wanted old) && not (
 
 -- ---- the tables of a model
 
--- the position of a mark as a set; a mark above 32 names no position
+-- the position of a mark as a set; a mark above the most positions names none
 unfoldable pub markSet : Mark → PositionSet
-markSet m = cond (eqb (m .0) 0) 0 (cond (ltb 32 (m .0)) 0 (only (position (m .0 - 1))))
+markSet m = cond (eqb (m .0) 0) 0 (cond (ltb (limits .positions) (m .0)) 0 (only (position (m .0 - 1))))
 
 unfoldable pub landSet : Mark → Mark → PositionSet
 landSet n e = cond (eqb (e .0) 0) (markSet n) (markSet e)
