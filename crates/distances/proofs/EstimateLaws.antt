@@ -9,7 +9,7 @@ use native.Mathlib.Omega.{arith}
 use lib.ListN.{length}
 use Rattle.task.specs.declared.Step.{Step}
 use Rattle.task.specs.declared.Block.{Block}
-use Rattle.task.specs.Sizes.{limits}
+use Rattle.task.specs.Sizes.{limits, mostCost, mostTenths}
 use Rattle.task.specs.Task.{Task, State, Tenths, Accepted, block, stepCount, costOf, isState, isGoal, canTake, taken, reaches, costs}
 use Rattle.task.proofs.TaskLaws.{taken-state, first-step}
 use Rattle.blocks.specs.declared.Cut.{Cut}
@@ -150,17 +150,19 @@ module _ (t : Task) (v : Accepted t) (cs : List Cut) (ok : accepted t cs ≡ tru
       go none e = noWay
       go (some d) e = cost-below (stateFar t (blocksOf t cs) x) (no-fall t (blocksOf t cs) c (accepted-parts t v cs ok) (fits t (blocksOf t cs) c k) x h e)
 
-  -- the largest distance of 256 blocks is 255 × 65,535, below the mark for "no way"
-  pub estimate-bound : length cs < limits .blocks → (x : State) → isState t x ≡ true → (e : Tenths) → estimate t cs x ≡ some e → (e ≤ 255 * 65535) × (e < limits .«no_way»)
+  -- the largest distance of all blocks is below the mark for "no way"
+  pub estimate-bound : length cs < limits .blocks → (x : State) → isState t x ≡ true → (e : Tenths) → estimate t cs x ≡ some e
+      → (e ≤ mostTenths) × (e < limits .«no_way»)
   unfolding estimate distances
   estimate-bound n x h e q =
       let r = state-far t (blocksOf t cs) (accepted-parts t v cs ok) x h in
       go (r .block) (r .is .made) (stateFar t (blocksOf t cs) x) (sym (r .far)) q
     where
-      go : (a : Block) → a .0 < length (blocksOf t cs) → (o : Option Distance) → farOf (distances t (blocksOf t cs)) a ≡ o → costIn o ≡ some e → (e ≤ 255 * 65535) × (e < limits .«no_way»)
+      go : (a : Block) → a .0 < length (blocksOf t cs) → (o : Option Distance) → farOf (distances t (blocksOf t cs)) a ≡ o → costIn o ≡ some e
+          → (e ≤ mostTenths) × (e < limits .«no_way»)
       go a k none far c = let z : _≡_ {A = ℕ} 0 1 = cc in absurd (omega arith)
       go a k (some d) far c =
-          let b = rounds-bound t (blocksOf t cs) 65535 (v .tenths) (length (blocksOf t cs)) a k far in
+          let b = rounds-bound t (blocksOf t cs) mostCost (v .tenths) (length (blocksOf t cs)) a k far in
           let l : length (blocksOf t cs) ≡ suc (length cs) = blocks-length t cs in
           let z : d .cost ≡ e = cc in
           (omega (arith, b .0, b .1), omega (arith, b .0, b .1))
