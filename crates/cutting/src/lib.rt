@@ -5,11 +5,11 @@ ghost use mathlib.Core.Option.{some};
 ghost use Prim.Native.Nat.{ℕ, _+_, _*_, _<_, _≤_};
 ghost use lib.ListN.{length, getD, take};
 ghost use Rattle.task.specs.Loops.{over};
-ghost use Rattle.task.specs.Sizes.{limits};
+ghost use Rattle.task.specs.Sizes.{limits, blockPlaces};
 ghost use Rattle.task.specs.Task.{Task, Accepted, position, columnCount, isState};
 ghost use Rattle.task.specs.Tables.{taskOf};
 ghost use Rattle.blocks.specs.Blocks.{every, whole, cutOk, accepted, blocksOf, blockOf};
-ghost use Rattle.blocks.specs.Flat.{past, laid, cutIn, blocksIn, cut, cutsIn, goesOn, followed};
+ghost use Rattle.blocks.specs.Flat.{past, laid, cutIn, blocksIn, Cuttable, cut, cutsIn, Followable, Placed, goesOn, followed};
 ghost use Rattle.blocks.specs.Masks.{parts};
 use blocks::Cut;
 use task::Block;
@@ -28,7 +28,7 @@ pub fn every_position(size: u8) -> u32
 
 // Block 0 with every state.
 pub fn fill_first(model: Model, sets: &mut BlockSets)
-    requires { ⌜ Accepted (taskOf model) × (length (now sets) ≡ limits .blocks * limits .columns) ⌝ }
+    requires { ⌜ Accepted (taskOf model) × (length (now sets) ≡ blockPlaces) ⌝ }
     ensures { λ _. ⌜ now (sets .exit) ≡ over (whole (taskOf model)) (now (sets .entry)) ⌝ }
 {
     let columns = model.columns;
@@ -41,7 +41,7 @@ pub fn fill_first(model: Model, sets: &mut BlockSets)
 
 // Copies the row of a block that begins at one place to another.
 fn copy_row(columns: usize, here: usize, there: usize, sets: &mut BlockSets)
-    requires { ⌜ (length (now sets) ≡ limits .blocks * limits .columns) × (here + columns ≤ there) × (there + columns ≤ limits .blocks * limits .columns) ⌝ }
+    requires { ⌜ (length (now sets) ≡ blockPlaces) × (here + columns ≤ there) × (there + columns ≤ blockPlaces) ⌝ }
     ensures { λ _. ⌜ now (sets .exit) ≡ laid columns (past (now (sets .entry)) here) there (now (sets .entry)) ⌝ }
 {
     let mut j: usize = 0;
@@ -53,7 +53,7 @@ fn copy_row(columns: usize, here: usize, there: usize, sets: &mut BlockSets)
 
 // Makes a cut: the wanted part goes under the next number, the rest stays under the old.
 pub fn make_cut(columns: usize, count: usize, cut: Cut, sets: &mut BlockSets)
-    requires { ⌜ (columns ≤ limits .columns) × (count < limits .blocks) × (cut .block .0 < count) × (cut .column .0 < columns) × (length (now sets) ≡ limits .blocks * limits .columns) ⌝ }
+    requires { ⌜ Cuttable columns count cut (now sets) ⌝ }
     ensures { λ _. ⌜ now (sets .exit) ≡ cutIn columns count cut (now (sets .entry)) ⌝ }
 {
     let here = cut.block.0 as usize * Model::COLUMNS;
@@ -110,8 +110,10 @@ fn goes_on(block: u32, column: usize, wanted: u32, state: State, a: u32) -> bool
 
 // The block of a state, by following the cuts: a list of three numbers for each.
 pub fn block_of(count: usize, cuts: &[u32], state: State) -> Block
-    requires { ⌜ (count < limits .blocks) × (count * 3 ≤ length (now cuts)) × ((i : ℕ) → i < count → (getD (now cuts) (i * 3 + 1) 0 < limits .columns) × (getD state (getD (now cuts) (i * 3 + 1) 0) (position 0) .0 < limits .positions)) ⌝ }
-    ensures { λ r. ⌜ r .0 ≡ followed (now (cuts .entry)) state count ⌝ ∗ ⌜ ((t : Task) → Accepted t → accepted t (cutsIn count (now (cuts .entry))) ≡ true → isState t (take (columnCount t) state) ≡ true → some r ≡ blockOf t (blocksOf t (cutsIn count (now (cuts .entry)))) (take (columnCount t) state)) ⌝ }
+    requires { ⌜ Followable count (now cuts) × Placed count (now cuts) state ⌝ }
+    ensures { λ r. ⌜ r .0 ≡ followed (now (cuts .entry)) state count ⌝
+        ∗ ⌜ ((t : Task) → Accepted t → accepted t (cutsIn count (now (cuts .entry))) ≡ true → isState t (take (columnCount t) state) ≡ true
+        → some r ≡ blockOf t (blocksOf t (cutsIn count (now (cuts .entry)))) (take (columnCount t) state)) ⌝ }
 {
     let mut a: u32 = 0;
     let mut i: usize = 0;

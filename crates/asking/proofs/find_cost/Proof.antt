@@ -9,7 +9,9 @@ use Rattle.asking.proofs.find_cost.Statement.{statement}
 use Rattle.asking.proofs.find_cost.Tie as tie
 
 block-of-requires : tie.Need-block-of-requires
-block-of-requires c κs = search needs
+block-of-requires c κs =
+    let p = c .before .pre in
+    (record { few = p .0; long = p .1; columns = λ i h. p .2 i h .0 }, record { each = λ i h. p .2 i h .1 })
 
 cast-result : tie.Need-cast-result
 cast-result c = search needs

@@ -49,7 +49,7 @@ make-cut-requires c κs =
     let l = c .before .before .before .before .before .before .loop in
     let g = c .before .before .before .before .before .before .before .before .args in
     let h = there (cutLent (g .cuts .now)) (l .sets) (g .columns) (l .i) (p .1) (omega (arith, p .0)) (l .inv .0 .1) (c .before .lent-cut .ensures) (c .before .before .if1 .left) (c .before .before .before .judge-lent-cut .ensures .0 .cut) in
-    (p .1, omega (arith, p .0), h .0, h .1, l .inv .0 .1)
+    record { wide = p .1; room = omega (arith, p .0); made = h .0; there = h .1; long = l .inv .0 .1 }
 
 add-i : tie.Need-add-i Inv-loop μ-loop
 add-i c = search needs

@@ -49,7 +49,11 @@ shared-slice-read-goes-on-2 : tie.Need-shared-slice-read-goes-on-2 Inv-loop μ-l
 shared-slice-read-goes-on-2 c = search needs
 
 cast-goes-on : tie.Need-cast-goes-on Inv-loop μ-loop
-cast-goes-on c = let h = c .before .before .before .before .before .before .pre .2 (c .before .before .before .before .loop .i) (c .before .before .before .loop-test .taken) .0 in search (h, needs)
+cast-goes-on c =
+    let h =
+    c .before .before .before .before .before .before .pre .0 .columns (c .before .before .before .before .loop .i)
+    (c .before .before .before .loop-test .taken) in
+    search (h, needs)
 
 mul-goes-on-5 : tie.Need-mul-goes-on-5 Inv-loop μ-loop
 mul-goes-on-5 c = search needs
@@ -64,7 +68,11 @@ shared-slice-read-goes-on-3 : tie.Need-shared-slice-read-goes-on-3 Inv-loop μ-l
 shared-slice-read-goes-on-3 c = search needs
 
 goes-on-requires : tie.Need-goes-on-requires Inv-loop μ-loop
-goes-on-requires c κs = c .before .before .before .before .before .before .before .pre .2 (c .before .before .before .before .before .loop .i) (c .before .before .before .before .loop-test .taken)
+goes-on-requires c κs =
+    let l = c .before .before .before .before .before in
+    let p = l .before .before .pre in
+    let more = c .before .before .before .before .loop-test .taken in
+    (p .0 .columns (l .loop .i) more, p .1 .each (l .loop .i) more)
 
 add-i : tie.Need-add-i Inv-loop μ-loop
 add-i c = search needs

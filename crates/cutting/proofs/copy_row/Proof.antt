@@ -3,6 +3,7 @@ use mathlib.Core.Logic.{inl}
 use Prim.Native.Nat.{_+_, _-_, _≤_}
 use native.Mathlib.Omega.{arith}
 use lib.ListN.{length, getD, length-set}
+use Rattle.task.specs.Sizes.{blockPlaces}
 use Rattle.blocks.specs.Flat.{past, laid}
 use Rattle.blocks.proofs.FlatLaws.{laid-none, laid-more, laid-outside}
 use borrow.Author.Needs.{needs}
@@ -12,7 +13,7 @@ use Rattle.cutting.proofs.copy_row.Reads as reads
 use Rattle.cutting.proofs.copy_row.Lts as lts
 
 abbrev Inv-loop : tie.InvT-loop
-Inv-loop columns here there sets₀ j₀ sets j = (j ≤ columns) × (length sets ≡ 4096) × (sets ≡ laid j (past sets₀ here) there sets₀)
+Inv-loop columns here there sets₀ j₀ sets j = (j ≤ columns) × (length sets ≡ blockPlaces) × (sets ≡ laid j (past sets₀ here) there sets₀)
 
 abbrev μ-loop : tie.MeasureT-loop
 μ-loop columns here there sets₀ j₀ sets j = columns - j

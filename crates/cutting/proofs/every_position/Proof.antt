@@ -1,5 +1,6 @@
 use Prim.Native.Nat.{_≤_, _^_}
 use lib.Pow.{pow-pos, pow-mono}
+use Rattle.task.specs.Sizes.{limits}
 use Rattle.blocks.specs.Blocks.{every}
 use Rattle.blocks.proofs.MaskLaws.{shift-one}
 use borrow.Author.Needs.{needs}
@@ -17,7 +18,7 @@ sub-result c = let s = c .args .size in rw (shift-one s 64 (search needs)) (pow-
 cast-result : tie.Need-cast-result
 cast-result c =
     let s = c .args .size in
-    let l : 2 ^ s ≤ 2 ^ 32 = pow-mono {i = s} {j = 32} (search needs) in
+    let l : 2 ^ s ≤ 2 ^ limits .positions = pow-mono {i = s} {j = limits .positions} (search needs) in
     rw (shift-one s 64 (search needs)) (search (l, needs))
 
 returns : tie.Need-returns

@@ -5,6 +5,7 @@ use Prim.Native.Nat.{_-_, _≤_}
 use native.Mathlib.Omega.{arith}
 use lib.ListN.{length, length-set}
 use Rattle.task.specs.Loops.{tab, over}
+use Rattle.task.specs.Sizes.{limits, blockPlaces}
 use Rattle.task.proofs.LoopLaws.{over-none}
 use Rattle.blocks.proofs.FlatLaws.{over-set, firstSet, first-whole}
 use borrow.Author.Needs.{needs}
@@ -15,7 +16,8 @@ use Rattle.cutting.proofs.fill_first.Lts as lts
 use Rattle.cutting.proofs.every_position.Reads as every-position-reads
 
 abbrev Inv-loop : tie.InvT-loop
-Inv-loop sets₀ model columns j₀ sets j = (j ≤ columns) × (columns ≤ 16) × (length sets ≡ 4096) × (sets ≡ over (tab j (firstSet model)) sets₀)
+Inv-loop sets₀ model columns j₀ sets j =
+    (j ≤ columns) × (columns ≤ limits .columns) × (length sets ≡ blockPlaces) × (sets ≡ over (tab j (firstSet model)) sets₀)
 
 abbrev μ-loop : tie.MeasureT-loop
 μ-loop sets₀ model columns j₀ sets j = columns - j
@@ -48,7 +50,13 @@ loop-again : tie.Need-loop-again Inv-loop μ-loop
 unfolding firstSet
 loop-again c =
     let l = c .before .before .before .loop in
-    (omega arith, l .inv .1, simp length-set (l .inv .2), over-set (firstSet (c .before .before .before .before .args .t1)) (l .j) _ (l .sets) (c .before .before .before .before .args .sets .now) (l .inv .3) (omega arith) (c .every-position .ensures))
+    let g = c .before .before .before .before .args in (
+      omega arith,
+      l .inv .1,
+      simp length-set (l .inv .2),
+      over-set (firstSet (g .t1)) (l .j) _ (l .sets) (g .sets .now) (l .inv .3) (omega arith)
+          (c .every-position .ensures),
+    )
 
 returns : tie.Need-returns Inv-loop μ-loop
 returns c =

@@ -78,7 +78,13 @@ make-cut-requires c κs =
     let l = c .before .before .before .before .before .before .before .before .before .before .before .before .before .before .loop in
     let k = l .inv .grown (r .task) (r .given) (r .stand) in
     let f = flaw-fits (p .0 .0) (p .0 .1) (l .inv) _ _ (c .before .before .before .before .before .before .before .before .before .look .ensures .0) (c .before .before .before .before .before .before .seen .given .1) (r .task) (r .given) (r .stand) in
-    (omega (arith, r .given .task .columns .1, r .given .tables .wide), omega (arith, p .0 .0, c .before .before .before .before .before .before .before .before .if1 .left), f .0, f .1, k .long)
+    record {
+      wide = omega (arith, r .given .task .columns .1, r .given .tables .wide);
+      room = omega (arith, p .0 .0, c .before .before .before .before .before .before .before .before .if1 .left);
+      made = f .0;
+      there = f .1;
+      long = k .long;
+    }
 
 add-made : tie.Need-add-made Inv-loop μ-loop
 add-made c =

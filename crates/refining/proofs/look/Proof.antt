@@ -27,7 +27,8 @@ fill-distances-requires c κs = let p = c .before .before .before .pre in
 block-of-requires : tie.Need-block-of-requires
 block-of-requires c κs = let p = c .before .before .before .before .pre in
     let r = p .1 in
-    (p .0 .0, p .0 .1, cut-small (r .task) (r .given) (r .stand) (p .0 .0))
+    let s = cut-small (r .task) (r .given) (r .stand) (p .0 .0) in
+    (record { few = p .0 .0; long = p .0 .1; columns = λ i h. s i h .0 }, record { each = λ i h. s i h .1 })
 
 cast-at : tie.Need-cast-at
 cast-at c = search needs
