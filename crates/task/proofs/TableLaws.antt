@@ -17,6 +17,7 @@ use Rattle.task.specs.declared.Model.{Model}
 use Rattle.task.specs.Loops.{all, tab}
 use Rattle.task.specs.Task.{Task, ColumnEntry, StepEntry, Change, noColumn, noStep, noChange, State, column, position, step, at, columnCount, stepCount, sizeOf, startAt, goalAt, costOf, changeAt, needAt, effectAt, eachColumn, perColumn, meets, changed, canTake, taken, isGoal, costs}
 use Rattle.task.specs.Tables.{mark, marked, placeOf, columnEntry, changeEntry, stepEntry, taskOf}
+use Rattle.task.specs.Sizes.{limits}
 use Rattle.task.proofs.LoopLaws.{all-ext, all-more, all-fails, tab-at, tab-length, tab-ext}
 
 module _ (m : Model) where
@@ -85,7 +86,7 @@ unfoldable pub rowMoved : List Mark → ℕ → State → ℕ → Position
 rowMoved l place x j = changed (marked (getD l (place + j) (mark 0))) (at x (column j))
 
 module _ (m : Model) where
-  pub can-take-row : (s : Step) (x : State) → s .0 < m .steps → canTake (taskOf m) s x ≡ rowMet (m .need) (s .0 * 16) x (m .columns)
+  pub can-take-row : (s : Step) (x : State) → s .0 < m .steps → canTake (taskOf m) s x ≡ rowMet (m .need) (s .0 * limits .columns) x (m .columns)
   unfolding canTake eachColumn rowMet
   can-take-row s x h =
       rw (columns-of m) (all-ext (m .columns) _ _ (λ j k. ap (λ (o : Option Position). meets o (at x (column j))) (need-of m s (column j) h k)))
@@ -95,7 +96,7 @@ module _ (m : Model) where
   is-goal-row x =
       rw (columns-of m) (all-ext (m .columns) _ _ (λ j k. ap (λ (o : Option Position). meets o (at x (column j))) (goal-of m (column j) k ∙ ap (λ (i : ℕ). marked (getD (m .goal) i (mark 0))) (sym (zero-add j)))))
 
-  pub taken-row : (s : Step) (x : State) → s .0 < m .steps → taken (taskOf m) s x ≡ tab (m .columns) (rowMoved (m .effect) (s .0 * 16) x)
+  pub taken-row : (s : Step) (x : State) → s .0 < m .steps → taken (taskOf m) s x ≡ tab (m .columns) (rowMoved (m .effect) (s .0 * limits .columns) x)
   unfolding taken perColumn rowMoved
   taken-row s x h =
       rw (columns-of m) (tab-ext (m .columns) _ _ (λ j k. ap (λ (o : Option Position). changed o (at x (column j))) (effect-of m s (column j) h k)))

@@ -1,4 +1,4 @@
--- Which task a model's tables are. A step has a place for each of the 16 columns that a model can have.
+-- Which task a model's tables are. A step has a place for each column that a model can have.
 use mathlib.Core.Option.{Option, none, some}
 use Prim.Native.Nat.{ℕ, zero, suc, _+_, _*_, _≤_}
 use lib.ListN.{getD}

@@ -12,7 +12,7 @@ use Rattle.task.specs.declared.Position.{Position}
 use Rattle.task.specs.declared.Step.{Step}
 use Rattle.task.specs.declared.Block.{Block}
 use Rattle.task.specs.Loops.{all, tab, prod}
-use Rattle.task.specs.Sizes.{limits}
+use Rattle.task.specs.Sizes.{limits, mostCost}
 
 abbrev pub column : ℕ → Column
 column n = record { 0 = n }
@@ -162,4 +162,4 @@ pub record Accepted (t : Task) : Type 0 where
   pub goals : (j : Column) (p : Position) → j .0 < columnCount t → goalAt t j ≡ some p → p .0 < sizeOf t j
   pub needs : (s : Step) (j : Column) (p : Position) → j .0 < columnCount t → needAt t s j ≡ some p → p .0 < sizeOf t j
   pub effects : (s : Step) (j : Column) (p : Position) → j .0 < columnCount t → effectAt t s j ≡ some p → p .0 < sizeOf t j
-  pub tenths : (s : Step) → costOf t s ≤ 65535
+  pub tenths : (s : Step) → costOf t s ≤ mostCost

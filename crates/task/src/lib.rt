@@ -3,7 +3,7 @@ ghost use mathlib.Core.Path.{_≡_};
 ghost use Prim.Native.Nat.{ℕ, _≤_, _<_};
 ghost use lib.ListN.{getD, take};
 ghost use Rattle.task.specs.Loops.{over};
-ghost use Rattle.task.specs.Sizes.{limits};
+ghost use Rattle.task.specs.Sizes.{limits, mostCost};
 ghost use Rattle.task.specs.Task.{step, meets, changed, canTake, taken, isGoal, costs};
 ghost use Rattle.task.specs.Tables.{marked, taskOf, WithinLimits};
 
@@ -207,7 +207,7 @@ pub fn moved(mark: Mark, position: Position) -> Position
 
 // A step's cost in a wider number, with the bound that a sum of costs needs.
 pub fn tenths(cost: u16) -> u32
-    ensures { λ r. ⌜ (r ≡ cost) × (r ≤ 65535) ⌝ }
+    ensures { λ r. ⌜ (r ≡ cost) × (r ≤ mostCost) ⌝ }
 {
     cost as u32
 }

@@ -4,6 +4,7 @@ use Prim.Native.Nat.{_*_, _-_, _≤_}
 use native.Mathlib.Omega.{arith}
 use borrow.Author.Tests.{not-true, not-false}
 use Rattle.task.specs.Task.{at}
+use Rattle.task.specs.Sizes.{limits}
 use Rattle.task.proofs.TableLaws.{rowMet, row-none, row-more, row-fails, can-take-row}
 use borrow.Author.Needs.{needs}
 use Rattle.task.proofs.Model.can_take.Statement.{statement}
@@ -40,7 +41,8 @@ returns : tie.Need-returns Inv-loop μ-loop
 unfolding at
 returns c = let g = c .before .before .before .before .before .before .before .args in
     sym (can-take-row (g .t1) (g .step) (g .t3) (c .before .before .before .before .before .before .before .pre .1)
-    ∙ row-fails (g .t1 .need) (g .step .0 * 16) (g .t3) (g .t1 .columns) (c .before .before .before .before .before .loop .j) (c .before .before .before .before .loop-test .taken) (sym (c .before .met .ensures) ∙ not-true _ (c .if1 .taken)))
+    ∙ row-fails (g .t1 .need) (g .step .0 * limits .columns) (g .t3) (g .t1 .columns) (c .before .before .before .before .before .loop .j)
+    (c .before .before .before .before .loop-test .taken) (sym (c .before .met .ensures) ∙ not-true _ (c .if1 .taken)))
 
 add-j : tie.Need-add-j Inv-loop μ-loop
 add-j c = search needs
@@ -52,7 +54,8 @@ loop-again : tie.Need-loop-again Inv-loop μ-loop
 unfolding at
 loop-again c = let g = c .before .before .before .before .before .before .before .args in (
   search needs,
-  row-more (g .t1 .need) (g .step .0 * 16) (g .t3) (c .before .before .before .before .before .loop .j) (c .before .before .before .before .before .loop .inv .1) (sym (c .before .met .ensures) ∙ not-false _ (c .if1 .left)),
+  row-more (g .t1 .need) (g .step .0 * limits .columns) (g .t3) (c .before .before .before .before .before .loop .j)
+      (c .before .before .before .before .before .loop .inv .1) (sym (c .before .met .ensures) ∙ not-false _ (c .if1 .left)),
 )
 
 returns-2 : tie.Need-returns-2 Inv-loop μ-loop

@@ -2,6 +2,7 @@ use Rattle.task.proofs.TableLaws.{costs-more, cost-of}
 use Rattle.task.proofs.LoopLaws.{length-mapped}
 use Rattle.task.specs.Tables.{taskOf}
 use Rattle.task.specs.Task.{costs}
+use Rattle.task.specs.Sizes.{mostSteps, mostCost}
 use lib.ListN.{length, take}
 use native.Mathlib.Omega.{arith}
 use Prim.Native.Nat.{_*_, _-_, _≤_}
@@ -11,7 +12,7 @@ use Rattle.task.proofs.Model.cost_of.Statement.{statement}
 use Rattle.task.proofs.Model.cost_of.Tie as tie
 
 abbrev Inv-loop : tie.InvT-loop
-Inv-loop count self list sum₀ i₀ sum i = ((i ≤ count) × (sum ≤ 65535 * i)) × (sum ≡ costs (taskOf self) (take i list))
+Inv-loop count self list sum₀ i₀ sum i = ((i ≤ count) × (sum ≤ mostCost * i)) × (sum ≡ costs (taskOf self) (take i list))
 
 abbrev μ-loop : tie.MeasureT-loop
 μ-loop count self list sum₀ i₀ sum i = count - i
@@ -47,7 +48,7 @@ loop-less c = search needs
 loop-again : tie.Need-loop-again Inv-loop μ-loop
 loop-again c = let g = c .before .before .before .before .before .before .args in
     let i = c .before .before .before .before .before .loop .i in
-    let l : length (g .t2) ≡ 255 = search (length-mapped, needs) in
+    let l : length (g .t2) ≡ mostSteps = search (length-mapped, needs) in
     let k = cost-of (g .t1) _ (c .before .before .before .before .before .before .pre .1 .1 i (c .before .before .before .before .loop-test .taken)) in
     (search needs, omega (arith, costs-more (taskOf (g .t1)) (g .t2) i (omega arith), k))
 

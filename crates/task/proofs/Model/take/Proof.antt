@@ -4,6 +4,7 @@ use native.Mathlib.Omega.{arith}
 use lib.ListN.{length}
 use Rattle.task.specs.Task.{at}
 use Rattle.task.specs.Loops.{tab, over}
+use Rattle.task.specs.Sizes.{limits}
 use Rattle.task.proofs.LoopLaws.{length-mapped, over-none, over-more}
 use Rattle.task.proofs.TableLaws.{rowMoved, taken-row}
 use borrow.Author.Needs.{needs}
@@ -49,8 +50,10 @@ loop-less c = search needs
 loop-again : tie.Need-loop-again Inv-loop μ-loop
 unfolding rowMoved at
 loop-again c = let g = c .before .before .before .before .before .before .args in
-    let l : length (g .t3) ≡ 16 = search (length-mapped, needs) in
-    let e = over-more (c .before .before .before .before .loop .j) (rowMoved (g .t1 .effect) (g .step .0 * 16) (g .t3)) (g .t3) (omega (arith, c .before .before .before .before .before .before .pre .0 .columns)) in
+    let l : length (g .t3) ≡ limits .columns = search (length-mapped, needs) in
+    let e =
+    over-more (c .before .before .before .before .loop .j) (rowMoved (g .t1 .effect) (g .step .0 * limits .columns) (g .t3)) (g .t3)
+    (omega (arith, c .before .before .before .before .before .before .pre .0 .columns)) in
     (search needs, rw (c .before .before .before .before .loop .inv .1, c .moved .ensures) (sym e))
 
 returns : tie.Need-returns Inv-loop μ-loop
