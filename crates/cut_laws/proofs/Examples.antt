@@ -33,7 +33,7 @@ unfolding taskOn ofCuts cutEntries cut.cutLent part.cutFields part.cutHeader par
 written = refl
 
 pub listed : cutList (rethread ++ cutPart) ≡ four
-unfolding cutList cut.cutValues cut.tailOf part.cutOn judging.each bits.fieldAt bits.bitAt sheet.modelBits packing.bytesFor
+unfolding cutList cut.cutValues cut.tailOf part.cutBits part.cutOn judging.each bits.fieldAt bits.bitAt sheet.modelBits packing.bytesFor
 listed = refl
 
 -- ---- sheets against a given model, and their refusal numbers

@@ -137,7 +137,7 @@ module _ (m s : List ℕ) where
 
   -- the cut part was judged, in the array that held block 0
   pub ends : {x columns : ℕ} {part : List ℕ} (exit : List ℕ) → judgeSheet m ≡ 0 → columnCount (taskOn m) ≡ columns → atFront m s ≡ true → part ≡ drop (length m) s
-      → PartJudged (taskOn m) part columns x exit → SheetJudged m s x exit
+      → PartJudged judgeCuts (taskOn m) part columns x exit → SheetJudged m s x exit
   ends {x} {columns} {part} exit ok w front p j =
       let t : part ≡ tailOf s = p ∙ sym (tail-is m ok s front) in
       record {

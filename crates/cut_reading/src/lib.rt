@@ -12,9 +12,12 @@ ghost use Rattle.blocks.specs.Blocks.{whole};
 ghost use Rattle.cut_sheets.specs.CutPart.{cutOn};
 ghost use Rattle.cut_sheets.specs.CutSheet.{atFront, cutValues};
 ghost use Rattle.cut_reading.specs.Rebuilding.{SheetJudged, Rebuilds};
-use cut_sheets::judge_cut_part;
+use cut_sheets::cut_bits;
+use cut_sheets::cut_count;
+use cut_sheets::judge_cut_tail;
 use cutting::every_position;
 use fields::field::field;
+use sheets::column_bits;
 use sheets::judge_part;
 use sheets::judge_sheet;
 use task::BlockSets;
@@ -51,7 +54,7 @@ fn fill_whole(model: &[u8], columns: usize, sets: &mut BlockSets)
 {
     let mut j: usize = 0;
     while j < columns {
-        let size = field(model, 17 + j * 17, 6) as u8;
+        let size = field(model, column_bits(j), 6) as u8;
         sets[j] = every_position(size);
         j += 1;
     }
@@ -76,7 +79,7 @@ pub fn judge_cut_sheet(model: &[u8], sheet: &[u8], sets: &mut BlockSets) -> u8
     let columns = field(model, 4, 5) as usize;
     fill_whole(model, columns, sets);
     let start = model.len();
-    judge_cut_part(&sheet[start..], columns, sets)
+    judge_cut_tail(&sheet[start..], columns, sets)
 }
 
 // The cuts of a part, three values for each.
@@ -95,7 +98,7 @@ fn fill_cut(part: &[u8], i: usize, cuts: &mut [u32])
     requires { ⌜ (i + 1 < limits .blocks) × (i * 3 + 3 ≤ length (now cuts)) ⌝ }
     ensures { λ _. ⌜ now (cuts .exit) ≡ puts (i * 3) (cutValues (cutOn (now (part .entry))) i) (now (cuts .entry)) ⌝ }
 {
-    let at = 12 + i * 44;
+    let at = cut_bits(i);
     let place = i * 3;
     cuts[place] = field(part, at, 8);
     cuts[place + 1] = field(part, at + 8, 4);
@@ -113,7 +116,7 @@ pub fn rebuild(model: &[u8], sheet: &[u8], cuts: &mut [u32]) -> CutsRebuilt
     }
     let start = model.len();
     let part = &sheet[start..];
-    let count = field(part, 4, 8) as usize;
+    let count = cut_count(part);
     if cuts.len() < count * 3 {
         return CutsRebuilt::Refused(8);
     }

@@ -64,9 +64,9 @@ module _ (t : Task) (p : CutSource) (n : ℕ) where
 pub record CutReads (s : List ℕ) (p : CutSource) (n : ℕ) : Type 0 where
   pub form : fieldAt s 0 4 ≡ p .form .value
   pub count : fieldAt s 4 8 ≡ p .count .value
-  pub block : (i : ℕ) → i < n → fieldAt s (12 + i * 44) 8 ≡ p .cut i .block .value
-  pub column : (i : ℕ) → i < n → fieldAt s (12 + i * 44 + 8) 4 ≡ p .cut i .column .value
-  pub wanted : (i : ℕ) → i < n → fieldAt s (12 + i * 44 + 8 + 4) 32 ≡ p .cut i .wanted .value
+  pub block : (i : ℕ) → i < n → fieldAt s (cutBits i) 8 ≡ p .cut i .block .value
+  pub column : (i : ℕ) → i < n → fieldAt s (cutBits i + 8) 4 ≡ p .cut i .column .value
+  pub wanted : (i : ℕ) → i < n → fieldAt s (cutBits i + 8 + 4) 32 ≡ p .cut i .wanted .value
   pub fill : fieldAt s (cutBits n) (fillBits (cutBits n)) ≡ p .fill .value
 
 module _ (t : Task) (s : List ℕ) (p : CutSource) (n : ℕ) where
@@ -78,7 +78,7 @@ module _ (t : Task) (s : List ℕ) (p : CutSource) (n : ℕ) where
   at-fill = omega (arith, cuts-bits t p n)
 
   pub holds-reads : Holds s 0 (cutFields t p n) → CutReads s p n
-  unfolding cutFields cutHeader cutPart fillPart
+  unfolding cutFields cutHeader cutPart cutBits fillPart
   holds-reads h =
       let a = holds-split s 0 (H t p n) (C t p n ++ F t p n) h in
       let b = holds-split s 12 (C t p n) (F t p n) (subst (λ (x : ℕ). Holds s x (C t p n ++ F t p n)) at-cuts (a .1)) in
@@ -94,7 +94,7 @@ module _ (t : Task) (s : List ℕ) (p : CutSource) (n : ℕ) where
       }
 
   pub reads-holds : CutReads s p n → Holds s 0 (cutFields t p n)
-  unfolding cutFields cutHeader cutPart fillPart
+  unfolding cutFields cutHeader cutPart cutBits fillPart
   reads-holds r =
       holds-append s 0 (H t p n) (C t p n ++ F t p n) (r .form, (r .count, tt))
       (subst (λ (x : ℕ). Holds s x (C t p n ++ F t p n)) (sym at-cuts)
@@ -178,7 +178,7 @@ module _ (t : Task) (s : List ℕ) (p : CutSource) (n : ℕ) (ok : PartFine t p 
   here : (at w : ℕ) → at + w ≤ cutBits n → onSheet s at w .here ≡ true
   here at w h = sheet-here s at w (omega (arith, cut-whole n))
 
-  below : (i : ℕ) → i < n → 12 + i * 44 + 44 ≤ cutBits n
+  below : (i : ℕ) → i < n → cutBits i + 44 ≤ cutBits n
   unfolding cutBits
   below i h = omega arith
 
@@ -193,9 +193,9 @@ module _ (t : Task) (s : List ℕ) (p : CutSource) (n : ℕ) (ok : PartFine t p 
         form = same-field _ _ (here 0 4 (omega (arith, twelve))) (ok .form .0) (r .form);
         count = same-field _ _ (here 4 8 (omega (arith, twelve))) (ok .count .0) (r .count);
         cut = λ i h k. record {
-          block = same-field (onSheet s (12 + i * 44) 8) (p .cut i .block) (here (12 + i * 44) 8 (omega (arith, below i h))) (ok .cut i h .block) (r .block i h) k;
-          column = same-field (onSheet s (12 + i * 44 + 8) 4) (p .cut i .column) (here (12 + i * 44 + 8) 4 (omega (arith, below i h))) (ok .cut i h .column) (r .column i h) k;
-          wanted = same-field (onSheet s (12 + i * 44 + 8 + 4) 32) (p .cut i .wanted) (here (12 + i * 44 + 8 + 4) 32 (omega (arith, below i h))) (ok .cut i h .wanted) (r .wanted i h) k;
+          block = same-field (onSheet s (cutBits i) 8) (p .cut i .block) (here (cutBits i) 8 (omega (arith, below i h))) (ok .cut i h .block) (r .block i h) k;
+          column = same-field (onSheet s (cutBits i + 8) 4) (p .cut i .column) (here (cutBits i + 8) 4 (omega (arith, below i h))) (ok .cut i h .column) (r .column i h) k;
+          wanted = same-field (onSheet s (cutBits i + 8 + 4) 32) (p .cut i .wanted) (here (cutBits i + 8 + 4) 32 (omega (arith, below i h))) (ok .cut i h .wanted) (r .wanted i h) k;
         };
         fill = same-field _ _ (sheet-here s (cutBits n) (fillBits (cutBits n)) (omega (arith, cut-whole n))) (ok .fill .0) (r .fill);
       }

@@ -18,7 +18,7 @@ use Rattle.blocks.specs.Blocks.{accepted, blocksOf}
 use Rattle.blocks.proofs.PartLaws.{fits}
 use Rattle.blocks.proofs.CutLaws.{blocks-length}
 use Rattle.sheets.specs.ModelSheet.{fillBits, fillPart}
-use Rattle.cut_sheets.specs.CutPart.{CutFields, CutSource, cutNamed, cutsNamed, cutHeader, cutPart, cutBits, cutFields, cutEntries, countOf, cutOn, cutPartWith, ofCutPart, cutBytes, cutChecks, judgeCuts}
+use Rattle.cut_sheets.specs.CutPart.{CutFields, CutSource, cutNamed, cutsNamed, cutHeader, cutPart, cutBits, cutFields, cutEntries, countOf, cutOn, cutPartWith, ofCutPart, cutBytes, cutEnd, cutChecks, judgeCuts}
 use Rattle.cut_sheets.proofs.CutPartLaws.{H, C, F, cut-whole, part-bits, CutReads, holds-reads, reads-holds, CutFine, PartFine, part-fine, cuts-length, cuts-accepted, SameCuts, same-fields, reads-same}
 
 -- a cut that is accepted has room in its fields
@@ -81,17 +81,17 @@ module _ (t : Task) (v : Accepted t) (p : CutSource) (ok : judged (cutEntries t 
   pub written-accepted : judgeCuts t T ≡ 0
   unfolding judgeCuts cutChecks
   written-accepted =
-      let e : cutBytes (countOf T) ≡ length T = ap cutBytes (written-reads .count) ∙ sym written-length in
+      let e : cutEnd T ≡ length T = ap cutBytes (written-reads .count) ∙ sym written-length in
       let z : judged (cutEntries t (ofCutPart T)) ≡ 0 = ap judged written-entries ∙ ok in
-      sym (last-went (cutEntries t (ofCutPart T)) _ (sym z) refl (passes 6 (ltb (cutBytes (countOf T)) (length T)) [] (le-ltb (cutBytes (countOf T)) (length T) (omega arith)) no-checks))
+      sym (last-went (cutEntries t (ofCutPart T)) _ (sym z) refl (passes 6 (ltb (cutEnd T) (length T)) [] (le-ltb (cutEnd T) (length T) (omega arith)) no-checks))
 
 -- ---- read and written again
 module _ (t : Task) (s : List ℕ) (ok : judgeCuts t s ≡ 0) where
-  split-ok : (judged (cutEntries t (ofCutPart s)) ≡ 0) × (length s ≤ cutBytes (countOf s))
+  split-ok : (judged (cutEntries t (ofCutPart s)) ≡ 0) × (length s ≤ cutEnd s)
   unfolding judgeCuts cutChecks
   split-ok =
       let r = last-both (cutEntries t (ofCutPart s)) _ ok in
-      (r .0, ltb-false (cutBytes (countOf s)) (length s) (passed 6 (ltb (cutBytes (countOf s)) (length s)) [] (omega arith) (r .1) .0))
+      (r .0, ltb-false (cutEnd s) (length s) (passed 6 (ltb (cutEnd s) (length s)) [] (omega arith) (r .1) .0))
 
   pub own-judged : judged (cutEntries t (ofCutPart s)) ≡ 0
   own-judged = split-ok .0
@@ -106,7 +106,7 @@ module _ (t : Task) (s : List ℕ) (ok : judgeCuts t s ≡ 0) where
   own-accepted = cuts-accepted t (cutOn s) (countOf s) (λ i l. own-fine .cut i l .ok)
 
   -- an accepted part is as long as its count says
-  pub exact-length : length s ≡ cutBytes (countOf s)
+  pub exact-length : length s ≡ cutEnd s
   unfolding ofCutPart cutPartWith
   exact-length =
       let b = cutBits (countOf s) in
@@ -118,10 +118,10 @@ module _ (t : Task) (s : List ℕ) (ok : judgeCuts t s ≡ 0) where
       reads-holds t s (ofCutPart s) (countOf s)
       (record { form = refl; count = refl; block = λ i l. refl; column = λ i l. refl; wanted = λ i l. refl; fill = refl })
 
-  own-whole : bitsIn (cutEntries t (ofCutPart s)) ≡ 8 * cutBytes (countOf s)
+  own-whole : bitsIn (cutEntries t (ofCutPart s)) ≡ 8 * cutEnd s
   unfolding cutEntries ofCutPart cutPartWith
   own-whole = part-bits t (ofCutPart s) (countOf s) ∙ cut-whole (countOf s)
 
   -- accepted bytes come back the same
   pub read-write : Bytes s → sheetOf (cutEntries t (ofCutPart s)) ≡ s
-  read-write bs = sheet-only (cutEntries t (ofCutPart s)) (cutBytes (countOf s)) (holds-fit s 0 (cutEntries t (ofCutPart s)) own-holds) own-whole s bs exact-length own-holds
+  read-write bs = sheet-only (cutEntries t (ofCutPart s)) (cutEnd s) (holds-fit s 0 (cutEntries t (ofCutPart s)) own-holds) own-whole s bs exact-length own-holds

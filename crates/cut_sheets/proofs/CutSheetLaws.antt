@@ -18,7 +18,7 @@ use Rattle.fields.proofs.JudgingLaws.{go, stop, neither, last-both, last-stoppe
 use Rattle.fields.proofs.PartLaws.{field-take}
 use Rattle.fields.proofs.PlaceLaws.{each-length, each-at}
 use Rattle.fields.proofs.PutLaws.{Bytes}
-use Rattle.sheets.specs.ModelSheet.{columnsOf, stepsOf, modelBytes, ofSheet, entries, sheetChecks, judgeSheet, judgePart}
+use Rattle.sheets.specs.ModelSheet.{modelBytes, modelEnd, ofSheet, entries, sheetChecks, judgeSheet, judgePart}
 use Rattle.sheets.proofs.SheetLaws.{sheet-fine}
 use Rattle.sheets.proofs.FrontLaws.{front-counts, front-accepted}
 use Rattle.sheets.proofs.RoundLaws.{exact-length, same-field}
@@ -48,14 +48,14 @@ module _ (model : List ℕ) (ok : judgeSheet model ≡ 0) (s : List ℕ) (front 
   part-ok : judgePart model ≡ 0
   part-ok = sheet-fine model ok .0
 
-  front-fields : (at w : ℕ) → at + w ≤ 8 * modelBytes (columnsOf model) (stepsOf model) → fieldAt s at w ≡ fieldAt model at w
+  front-fields : (at w : ℕ) → at + w ≤ 8 * modelEnd model → fieldAt s at w ≡ fieldAt model at w
   front-fields at w h = sym (field-take s (length model) at w (omega (arith, exact-length model ok))) ∙ ap (λ (x : List ℕ). fieldAt x at w) (front-take model s front .1)
 
-  long : modelBytes (columnsOf model) (stepsOf model) ≤ length s
+  long : modelEnd model ≤ length s
   long = omega (arith, exact-length model ok, front-take model s front .0)
 
   -- the inner model has as many bytes as the given one
-  pub inner-bytes : modelBytes (columnsOf s) (stepsOf s) ≡ length model
+  pub inner-bytes : modelEnd s ≡ length model
   inner-bytes = let c = front-counts model part-ok s front-fields long in ap₂ modelBytes (c .0) (c .1) ∙ sym (exact-length model ok)
 
   -- the cut part starts where the given sheet ends
@@ -186,7 +186,7 @@ module _ (model s : List ℕ) (ok : refusal (cutSheetChecks model s) ≡ 0) wher
 
   tail-bytes : Bytes s → Bytes T
   unfolding tailOf
-  tail-bytes b i = rw (getD-drop (modelBytes (columnsOf s) (stepsOf s)) s i 0) (b (modelBytes (columnsOf s) (stepsOf s) + i))
+  tail-bytes b i = rw (getD-drop (modelEnd s) s i 0) (b (modelEnd s + i))
 
   -- from any list that begins with the sheet's cuts
   module _ (rest : List ℕ) where

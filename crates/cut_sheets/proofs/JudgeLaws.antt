@@ -6,12 +6,11 @@ use mathlib.Core.Path.{_≡_, refl, sym, ap, ap₂, _∙_, subst}
 use mathlib.Core.Logic.{⊎-elim}
 use mathlib.Core.Bool.{Bool, true, false, not}
 use mathlib.Core.List.{List, [], _∷_, _++_}
-use lib.Dec.{ltb}
 use lib.ListN.{length, replicate, length-replicate}
 use Rattle.task.specs.Task.{Task, columnCount, column, block, noColumn}
 use Rattle.task.proofs.LoopLaws.{true-or-false}
 use Rattle.fields.specs.Bits.{fieldAt}
-use Rattle.fields.specs.Judging.{Entry, onSheet, entry, free, outside, check, refusal, judged, each}
+use Rattle.fields.specs.Judging.{Entry, Check, onSheet, entry, free, outside, follows, refusal, judged, each}
 use Rattle.fields.proofs.FieldLaws.{field-lt}
 use Rattle.sheets.specs.ModelSheet.{fillBits, fillPart}
 use Rattle.fields.proofs.JudgingLaws.{stopped, went, cut, spoilt, good, sheet-here, sheet-cut, place-here, place-cut, pass, hit, end, last-stopped, last-went}
@@ -22,13 +21,13 @@ use Rattle.blocks.proofs.PartLaws.{fits}
 use Rattle.blocks.proofs.CutLaws as cuts
 use Rattle.blocks.proofs.CutLaws.{blocks-more}
 use Rattle.blocks.proofs.FlatLaws.{blocks-length, cut-in-length, cut-made}
-use Rattle.cut_sheets.specs.CutPart.{CutFields, cutNamed, cutsNamed, cutHeader, cutPart, cutOn, cutBits, cutBytes, cutFields, cutEntries, countOf, cutPartWith, ofCutPart, cutFollows, cutChecks, judgeCuts}
+use Rattle.cut_sheets.specs.CutPart.{CutFields, cutNamed, cutsNamed, cutHeader, cutPart, cutOn, cutBits, cutFields, cutEntries, countOf, cutPartWith, ofCutPart, cutEnd, judgeCutPart, cutChecks, judgeCuts}
 use Rattle.cut_sheets.specs.CutSheet.{cutLent}
 use Rattle.cut_sheets.specs.Judged.{Made, CutJudged, CutsJudged, PartJudged}
 use Rattle.cut_sheets.proofs.CutPartLaws.{cuts-more, cuts-length}
 
 -- the cut that three values name
-pub named : (s : List ℕ) (i : ℕ) {a b w : ℕ} → a ≡ fieldAt s (12 + i * 44) 8 → b ≡ fieldAt s (12 + i * 44 + 8) 4 → w ≡ fieldAt s (12 + i * 44 + 8 + 4) 32
+pub named : (s : List ℕ) (i : ℕ) {a b w : ℕ} → a ≡ fieldAt s (cutBits i) 8 → b ≡ fieldAt s (cutBits i + 8) 4 → w ≡ fieldAt s (cutBits i + 8 + 4) 32
     → _≡_ {A = Cut} (record { block = block a; column = column b; wanted = w }) (cutNamed (cutOn s i))
 unfolding cutNamed cutOn
 named s i p q r = λ k. record { block = block (p k); column = column (q k); wanted = r k }
@@ -72,13 +71,13 @@ module _ (t : Task) (c : ℕ → CutFields) (i : ℕ) where
 
 -- the fields of cut i of a part are there
 module _ (s : List ℕ) (i : ℕ) where
-  pub sheet-short : 8 * length s < 12 + i * 44 + 44 → cutOn s i .wanted .here ≡ false
-  unfolding cutOn
-  sheet-short h = sheet-cut s (12 + i * 44 + 8 + 4) 32 (omega arith)
+  pub sheet-short : 8 * length s < cutBits (i + 1) → cutOn s i .wanted .here ≡ false
+  unfolding cutOn cutBits
+  sheet-short h = sheet-cut s (cutBits i + 8 + 4) 32 (omega arith)
 
-  pub sheet-whole : 12 + i * 44 + 44 ≤ 8 * length s → (cutOn s i .block .here ≡ true) × (cutOn s i .column .here ≡ true) × (cutOn s i .wanted .here ≡ true)
-  unfolding cutOn
-  sheet-whole h = (sheet-here s (12 + i * 44) 8 (omega arith), sheet-here s (12 + i * 44 + 8) 4 (omega arith), sheet-here s (12 + i * 44 + 8 + 4) 32 (omega arith))
+  pub sheet-whole : cutBits (i + 1) ≤ 8 * length s → (cutOn s i .block .here ≡ true) × (cutOn s i .column .here ≡ true) × (cutOn s i .wanted .here ≡ true)
+  unfolding cutOn cutBits
+  sheet-whole h = (sheet-here s (cutBits i) 8 (omega arith), sheet-here s (cutBits i + 8) 4 (omega arith), sheet-here s (cutBits i + 8 + 4) 32 (omega arith))
 
 -- the fields of cut i of a lent list are there
 module _ (cuts : List ℕ) (i : ℕ) where
@@ -187,43 +186,53 @@ module _ (t : Task) (s : List ℕ) where
   abbrev Rest : List Entry
   Rest = Cuts (countOf s) ++ Fill (countOf s)
 
-  refused : (exit : List ℕ) (columns : ℕ) {r : ℕ} → (r ≡ 0 → ⊥) → r ≡ judged (Form ∷ Count ∷ Rest) → PartJudged t s columns r exit
-  unfolding judgeCuts cutChecks cutEntries cutFields cutHeader ofCutPart cutPartWith
-  refused exit columns z e = record { refusal = last-stopped (Form ∷ Count ∷ Rest) (cutFollows s ∷ []) e z; made = λ n. absurd (z n) }
+  whole-part : {r : ℕ} → r ≡ judged (Form ∷ Count ∷ Rest) → r ≡ judgeCutPart t s
+  unfolding judgeCutPart cutEntries cutFields cutHeader ofCutPart cutPartWith
+  whole-part e = e
 
-  pub form-refused : (exit : List ℕ) (columns : ℕ) {a : ℕ} → a ≡ judged (Form ∷ []) → (a ≡ 0 → ⊥) → PartJudged t s columns a exit
+  refused : (exit : List ℕ) (columns : ℕ) {r : ℕ} → (r ≡ 0 → ⊥) → r ≡ judged (Form ∷ Count ∷ Rest) → PartJudged judgeCutPart t s columns r exit
+  refused exit columns z e = record { refusal = whole-part e; made = λ n. absurd (z n) }
+
+  pub form-refused : (exit : List ℕ) (columns : ℕ) {a : ℕ} → a ≡ judged (Form ∷ []) → (a ≡ 0 → ⊥) → PartJudged judgeCutPart t s columns a exit
   form-refused exit columns ea za = refused exit columns za (stopped (Form ∷ []) (Count ∷ Rest) ea za)
 
   module _ {a : ℕ} (ea : a ≡ judged (Form ∷ [])) (za : a ≡ 0) where
-    pub count-refused : (exit : List ℕ) (columns : ℕ) {b : ℕ} → b ≡ judged (Count ∷ []) → (b ≡ 0 → ⊥) → PartJudged t s columns b exit
+    pub count-refused : (exit : List ℕ) (columns : ℕ) {b : ℕ} → b ≡ judged (Count ∷ []) → (b ≡ 0 → ⊥) → PartJudged judgeCutPart t s columns b exit
     count-refused exit columns eb zb = refused exit columns zb (went (Form ∷ []) (Count ∷ Rest) ea za (stopped (Count ∷ []) Rest eb zb))
 
     module _ {b n : ℕ} (eb : b ≡ judged (Count ∷ [])) (zb : b ≡ 0) (en : n ≡ countOf s) where
-      rest-refused : (exit : List ℕ) (columns : ℕ) {r : ℕ} → (r ≡ 0 → ⊥) → r ≡ judged Rest → PartJudged t s columns r exit
-      rest-refused exit columns z e = refused exit columns z (went (Form ∷ []) (Count ∷ Rest) ea za (went (Count ∷ []) Rest eb zb e))
+      past-header : {r : ℕ} → r ≡ judged Rest → r ≡ judged (Form ∷ Count ∷ Rest)
+      past-header e = went (Form ∷ []) (Count ∷ Rest) ea za (went (Count ∷ []) Rest eb zb e)
 
-      -- a refusal of the cuts, and of the fill
-      pub cuts-refused : (exit : List ℕ) (columns : ℕ) {c : ℕ} → CutsJudged t (cutOn s) columns n c exit → (c ≡ 0 → ⊥) → PartJudged t s columns c exit
+      -- a refusal of the cuts
+      pub cuts-refused : (exit : List ℕ) (columns : ℕ) {c : ℕ} → CutsJudged t (cutOn s) columns n c exit → (c ≡ 0 → ⊥) → PartJudged judgeCutPart t s columns c exit
       cuts-refused exit columns j z =
-          rest-refused exit columns z (stopped (Cuts (countOf s)) (Fill (countOf s)) (j .refusal ∙ ap (λ (k : ℕ). judged (Cuts k)) en) z)
+          refused exit columns z (past-header (stopped (Cuts (countOf s)) (Fill (countOf s)) (j .refusal ∙ ap (λ (k : ℕ). judged (Cuts k)) en) z))
 
       module _ (exit : List ℕ) (columns : ℕ) {c : ℕ} (j : CutsJudged t (cutOn s) columns n c exit) (zc : c ≡ 0) where
         past-cuts : {d : ℕ} → d ≡ judged (Fill n) → d ≡ judged Rest
         past-cuts e = went (Cuts (countOf s)) (Fill (countOf s)) (j .refusal ∙ ap (λ (k : ℕ). judged (Cuts k)) en) zc (e ∙ ap (λ (k : ℕ). judged (Fill k)) en)
 
-        pub fill-refused : {d : ℕ} → d ≡ judged (Fill n) → (d ≡ 0 → ⊥) → PartJudged t s columns d exit
-        fill-refused e z = rest-refused exit columns z (past-cuts e)
+        -- else the fill decides
+        pub fill-judged : {d : ℕ} → d ≡ judged (Fill n) → PartJudged judgeCutPart t s columns d exit
+        fill-judged e = record { refusal = whole-part (past-header (past-cuts e)); made = λ q. subst (λ (k : ℕ). Made t (cutOn s) columns k exit) en (j .made zc) }
 
-        -- bytes follow, or none do
-        pub part-end : {d x : ℕ} → d ≡ judged (Fill n) → d ≡ 0 → x ≡ refusal (check 6 (ltb (cutBytes n) (length s)) ∷ []) → PartJudged t s columns x exit
-        unfolding judgeCuts cutChecks cutEntries cutFields cutHeader ofCutPart cutPartWith
-        part-end e z f =
-            record {
-              refusal =
-                  last-went (Form ∷ Count ∷ Rest) (cutFollows s ∷ []) (went (Form ∷ []) (Count ∷ Rest) ea za (went (Count ∷ []) Rest eb zb (past-cuts e))) z
-                  (f ∙ ap (λ (k : ℕ). refusal (check 6 (ltb (cutBytes k) (length s)) ∷ [])) en);
-              made = λ q. subst (λ (k : ℕ). Made t (cutOn s) columns k exit) en (j .made zc);
-            }
+-- ---- a part that nothing follows, by what the part at its front was judged, and its end
+module _ (t : Task) (s : List ℕ) (columns : ℕ) {a : ℕ} {exit : List ℕ} (j : PartJudged judgeCutPart t s columns a exit) where
+  abbrev Follows : List Check
+  Follows = follows (cutEnd s) s ∷ []
+
+  pub tail-refused : (a ≡ 0 → ⊥) → PartJudged judgeCuts t s columns a exit
+  unfolding judgeCutPart judgeCuts cutChecks
+  tail-refused z = record { refusal = last-stopped (cutEntries t (ofCutPart s)) Follows (j .refusal) z; made = λ n. absurd (z n) }
+
+  pub tail-end : a ≡ 0 → {end x : ℕ} → end ≡ cutEnd s → x ≡ refusal (follows end s ∷ []) → PartJudged judgeCuts t s columns x exit
+  unfolding judgeCutPart judgeCuts cutChecks
+  tail-end z q f =
+      record {
+        refusal = last-went (cutEntries t (ofCutPart s)) Follows (j .refusal) z (f ∙ ap (λ (k : ℕ). refusal (follows k s ∷ [])) q);
+        made = λ n. j .made z;
+      }
 
 -- the count of a part whose header was accepted
 pub count-below : (s : List ℕ) {n : ℕ} → n ≡ countOf s → n < 256

@@ -1,14 +1,12 @@
 -- 01, "Sheets" and "Refusal numbers", of the cut part: its fields in sheet order, how each is judged, and where each stands.
-use Prim.Native.Nat.{ℕ, _+_, _-_, _*_}
+use Prim.Native.Nat.{ℕ, _+_, _*_}
 use mathlib.Core.Bool.{not}
 use mathlib.Core.List.{List, [], _∷_, _++_}
-use lib.ListN.{length}
-use lib.Dec.{ltb}
-use Rattle.task.specs.Sizes.{limits}
+use Rattle.task.specs.Sizes.{mostSteps}
 use Rattle.task.specs.Loops.{tab}
 use Rattle.task.specs.Task.{Task}
 use Rattle.fields.specs.Bits.{fieldAt}
-use Rattle.fields.specs.Judging.{Field, Entry, Check, onSheet, entry, free, outside, check, checksOf, refusal, each}
+use Rattle.fields.specs.Judging.{Field, Entry, Check, onSheet, entry, free, outside, follows, checksOf, refusal, judged, each}
 use Rattle.fields.specs.Packing.{bytesFor}
 use Rattle.blocks.specs.declared.Cut.{Cut}
 use Rattle.blocks.specs.Blocks.{cutOk, blocksOf}
@@ -37,9 +35,9 @@ cutsNamed c i = tab i (λ k. cutNamed (c k))
 
 -- ---- the fields in sheet order, each with its bits and what is refused of its value
 
--- form 4 bits, value 2; cuts 8, at most 255, which only a writer can be given more of
+-- form 4 bits, value 2; cuts 8, at most mostSteps, which only a writer can be given more of
 unfoldable pub cutHeader : Field → Field → List Entry
-cutHeader form count = entry 4 form 2 (outside 2 2 (form .value)) ∷ entry 8 count 9 (outside 0 (limits .blocks - 1) (count .value)) ∷ []
+cutHeader form count = entry 4 form 2 (outside 2 2 (form .value)) ∷ entry 8 count 9 (outside 0 mostSteps (count .value)) ∷ []
 
 -- cut i: block 8 bits, column 4, wanted set 32; judged when its three fields are there, by the blocks that the cuts before it made
 unfoldable pub cutPart : Task → (ℕ → CutFields) → ℕ → List Entry
@@ -49,9 +47,13 @@ cutPart t c i =
     ∷ entry 32 (c i .wanted) 9 (not (cutOk t (blocksOf t (cutsNamed c i)) (cutNamed (c i))))
     ∷ []
 
--- how many bits n cuts take: cut n would begin there
+-- how many bits the header and n cuts take: cut n would begin there
 unfoldable pub cutBits : ℕ → ℕ
 cutBits n = 12 + n * 44
+
+-- no part takes more
+abbrev pub mostCutBits : ℕ
+mostCutBits = 12 + mostSteps * 44
 
 unfoldable pub cutFields : Task → CutSource → ℕ → List Entry
 cutFields t p n = cutHeader (p .form) (p .count) ++ (each n (cutPart t (p .cut)) ++ fillPart (cutBits n) (p .fill))
@@ -65,7 +67,7 @@ abbrev pub countOf : List ℕ → ℕ
 countOf s = fieldAt s 4 8
 
 unfoldable pub cutOn : List ℕ → ℕ → CutFields
-cutOn s i = record { block = onSheet s (12 + i * 44) 8; column = onSheet s (12 + i * 44 + 8) 4; wanted = onSheet s (12 + i * 44 + 8 + 4) 32 }
+cutOn s i = record { block = onSheet s (cutBits i) 8; column = onSheet s (cutBits i + 8) 4; wanted = onSheet s (cutBits i + 8 + 4) 32 }
 
 -- the fields of the bytes s, read as a part of n cuts
 unfoldable pub cutPartWith : List ℕ → ℕ → CutSource
@@ -78,14 +80,19 @@ ofCutPart s = cutPartWith s (countOf s)
 abbrev pub cutBytes : ℕ → ℕ
 cutBytes n = bytesFor (cutBits n)
 
+-- where the part at the front of s ends
+abbrev pub cutEnd : List ℕ → ℕ
+cutEnd s = cutBytes (countOf s)
+
 -- ---- the refusal of a cut part; 0 for none
 
--- bytes that follow come last
-abbrev pub cutFollows : List ℕ → Check
-cutFollows s = check 6 (ltb (cutBytes (countOf s)) (length s))
+-- of the part at the front of s, whatever follows
+unfoldable pub judgeCutPart : Task → List ℕ → ℕ
+judgeCutPart t s = judged (cutEntries t (ofCutPart s))
 
+-- of s as a whole: bytes that follow come last
 unfoldable pub cutChecks : Task → List ℕ → List Check
-cutChecks t s = checksOf (cutEntries t (ofCutPart s)) ++ (cutFollows s ∷ [])
+cutChecks t s = checksOf (cutEntries t (ofCutPart s)) ++ (follows (cutEnd s) s ∷ [])
 
 unfoldable pub judgeCuts : Task → List ℕ → ℕ
 judgeCuts t s = refusal (cutChecks t s)

@@ -7,7 +7,7 @@ use lib.Dec.{eqb, leb}
 use Rattle.task.specs.Loops.{all}
 use Rattle.fields.specs.Judging.{Check, inTable, given, check, checksOf, each}
 use Rattle.fields.specs.Packing.{sheetOf}
-use Rattle.sheets.specs.ModelSheet.{columnsOf, stepsOf, modelBytes, ofSheet, entries, sheetChecks}
+use Rattle.sheets.specs.ModelSheet.{modelEnd, ofSheet, entries, sheetChecks}
 use Rattle.sheets.specs.Holding.{taskOn}
 use Rattle.sheets.specs.LentTables.{tooFew}
 use Rattle.blocks.specs.declared.Cut.{Cut}
@@ -15,7 +15,7 @@ use Rattle.cut_sheets.specs.CutPart.{CutFields, CutSource, cutsNamed, cu
 
 -- the tail, starting after the inner model sheet
 unfoldable pub tailOf : List ℕ → List ℕ
-tailOf s = drop (modelBytes (columnsOf s) (stepsOf s)) s
+tailOf s = drop (modelEnd s) s
 
 -- the bytes a stand at the front of the bytes s
 unfoldable pub atFront : List ℕ → List ℕ → Bool

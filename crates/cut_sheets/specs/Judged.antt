@@ -7,7 +7,7 @@ use Rattle.task.specs.Task.{Task}
 use Rattle.fields.specs.Judging.{judged, each}
 use Rattle.blocks.specs.Blocks.{blocksOf}
 use Rattle.blocks.specs.Flat.{blocksIn}
-use Rattle.cut_sheets.specs.CutPart.{CutFields, cutNamed, cutsNamed, cutPart, cutOn, countOf, judgeCuts}
+use Rattle.cut_sheets.specs.CutPart.{CutFields, cutNamed, cutsNamed, cutPart, cutOn, countOf}
 use Rattle.cut_sheets.specs.CutSheet.{cutLent}
 
 -- the array holds the blocks of the first i cuts
@@ -24,9 +24,9 @@ pub record CutsJudged (t : Task) (c : ℕ → CutFields) (columns count r : ℕ)
   pub refusal : r ≡ judged (each count (cutPart t c))
   pub made : r ≡ 0 → Made t c columns count sets
 
--- the whole part was judged
-pub record PartJudged (t : Task) (s : List ℕ) (columns r : ℕ) (sets : List ℕ) : Type 0 where
-  pub refusal : r ≡ judgeCuts t s
+-- a whole part was judged: the part at the front of s (`judgeCutPart`), or all of s (`judgeCuts`)
+pub record PartJudged (judge : Task → List ℕ → ℕ) (t : Task) (s : List ℕ) (columns r : ℕ) (sets : List ℕ) : Type 0 where
+  pub refusal : r ≡ judge t s
   pub made : r ≡ 0 → Made t (cutOn s) columns (countOf s) sets
 
 -- cut i of a lent list was judged; where it was accepted, its place is there

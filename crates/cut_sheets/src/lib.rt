@@ -3,28 +3,60 @@
 ghost use mathlib.Core.Path.{_≡_};
 ghost use Prim.Native.Nat.{_+_, _*_, _≤_, _<_};
 ghost use lib.ListN.{length, getD};
-ghost use Rattle.task.specs.Sizes.{limits};
+ghost use Rattle.task.specs.Sizes.{limits, blockPlaces};
 ghost use Rattle.task.specs.Task.{Task, columnCount};
 ghost use Rattle.fields.specs.Judging.{judged};
-ghost use Rattle.cut_sheets.specs.CutPart.{cutNamed, cutPart, cutOn};
+ghost use Rattle.cut_sheets.specs.CutPart.{cutNamed, cutPart, cutBits, mostCutBits, cutBytes, countOf, cutOn, cutEnd};
+ghost use Rattle.cut_sheets.specs.CutPart.{judgeCutPart, judgeCuts};
 ghost use Rattle.cut_sheets.specs.CutSheet.{cutLent};
 ghost use Rattle.cut_sheets.specs.Judged.{Made, CutJudged, CutsJudged, PartJudged, LentJudged};
 use blocks::Cut;
 use cutting::cut_ok;
 use cutting::make_cut;
 use fields::field::field;
+use fields::field::judge_end;
 use fields::field::judge_field;
 use task::Block;
 use task::BlockSets;
 use task::Column;
 use task::Model;
 
+// Where cut i of a part begins: how many bits the header and so many cuts take.
+pub fn cut_bits(i: usize) -> usize
+    requires { ⌜ i < limits .blocks ⌝ }
+    ensures { λ r. ⌜ (r ≡ cutBits i) × (r ≤ mostCutBits) ⌝ }
+{
+    12 + i * 44
+}
+
+// How many bytes a part of so many cuts has.
+pub fn cut_bytes(count: usize) -> usize
+    requires { ⌜ count < limits .blocks ⌝ }
+    ensures { λ r. ⌜ r ≡ cutBytes count ⌝ }
+{
+    (cut_bits(count) + 7) / 8
+}
+
+// How many cuts the part at the front of s says that it has.
+pub fn cut_count(s: &[u8]) -> usize
+    ensures { λ r. ⌜ (r ≡ countOf (now (s .entry))) × (r < limits .blocks) ⌝ }
+{
+    field(s, 4, 8) as usize
+}
+
+// Where the part at the front of s ends.
+pub fn cut_end(s: &[u8]) -> usize
+    ensures { λ r. ⌜ r ≡ cutEnd (now (s .entry)) ⌝ }
+{
+    cut_bytes(cut_count(s))
+}
+
 // Cut i of a cut part.
 fn read_cut(s: &[u8], i: usize) -> Cut
     requires { ⌜ i + 1 < limits .blocks ⌝ }
     ensures { λ r. ⌜ r ≡ cutNamed (cutOn (now (s .entry)) i) ⌝ }
 {
-    let at = 12 + i * 44;
+    let at = cut_bits(i);
     let block = field(s, at, 8);
     let column = field(s, at + 8, 4);
     let wanted = field(s, at + 8 + 4, 32);
@@ -40,7 +72,7 @@ fn judge_cut(s: &[u8], i: usize, columns: usize, sets: &BlockSets) -> u8
     requires { ⌜ (i + 1 < limits .blocks) × (columns ≤ limits .columns) ⌝ }
     ensures { λ r. ⌜ CutJudged (cutOn (now (s .entry))) columns i r × ((t : Task) → columnCount t ≡ columns → Made t (cutOn (now (s .entry))) columns i (now (sets .entry)) → r ≡ judged (cutPart t (cutOn (now (s .entry))) i)) ⌝ }
 {
-    if s.len() < (12 + i * 44 + 44 + 7) / 8 {
+    if s.len() < (cut_bits(i + 1) + 7) / 8 {
         return 1;
     }
     if !cut_ok(columns, i + 1, read_cut(s, i), sets) {
@@ -66,10 +98,11 @@ fn judge_cuts(s: &[u8], count: usize, columns: usize, sets: &mut BlockSets) -> u
     0
 }
 
-// The refusal of a cut part; 0 for none, and the array then holds the blocks of its cuts.
+// The refusal of the cut part at the front of s, whatever follows; 0 for none, and the array then holds the blocks of its cuts.
 pub fn judge_cut_part(s: &[u8], columns: usize, sets: &mut BlockSets) -> u8
     requires { ⌜ (columns ≤ limits .columns) × (length (now sets) ≡ limits .blocks * limits .columns) ⌝ }
-    ensures { λ r. ⌜ ((t : Task) → columnCount t ≡ columns → Made t (cutOn (now (s .entry))) columns 0 (now (sets .entry)) → PartJudged t (now (s .entry)) columns r (now (sets .exit))) ⌝ }
+    ensures { λ r. ⌜ ((t : Task) → columnCount t ≡ columns → Made t (cutOn (now (s .entry))) columns 0 (now (sets .entry))
+        → PartJudged judgeCutPart t (now (s .entry)) columns r (now (sets .exit))) ⌝ }
 {
     let a = judge_field(s, 0, 4, 2, 2, 2);
     if a != 0 {
@@ -79,20 +112,26 @@ pub fn judge_cut_part(s: &[u8], columns: usize, sets: &mut BlockSets) -> u8
     if b != 0 {
         return b;
     }
-    let count = field(s, 4, 8) as usize;
+    let count = cut_count(s);
     let c = judge_cuts(s, count, columns, sets);
     if c != 0 {
         return c;
     }
-    let bits = 12 + count * 44;
-    let d = judge_field(s, bits, (8 - bits % 8) % 8, 0, 0, 6);
-    if d != 0 {
-        return d;
+    let bits = cut_bits(count);
+    judge_field(s, bits, (8 - bits % 8) % 8, 0, 0, 6)
+}
+
+// The refusal of a cut part that nothing follows, as it stands at a cut sheet's end.
+pub fn judge_cut_tail(s: &[u8], columns: usize, sets: &mut BlockSets) -> u8
+    requires { ⌜ (columns ≤ limits .columns) × (length (now sets) ≡ blockPlaces) ⌝ }
+    ensures { λ r. ⌜ ((t : Task) → columnCount t ≡ columns → Made t (cutOn (now (s .entry))) columns 0 (now (sets .entry))
+        → PartJudged judgeCuts t (now (s .entry)) columns r (now (sets .exit))) ⌝ }
+{
+    let a = judge_cut_part(s, columns, sets);
+    if a != 0 {
+        return a;
     }
-    if (bits + 7) / 8 < s.len() {
-        return 6;
-    }
-    0
+    judge_end(s, cut_end(s))
 }
 
 // Cut i of a lent list, whose numbers are within the limits.

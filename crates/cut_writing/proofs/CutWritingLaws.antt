@@ -46,12 +46,12 @@ module _ (t : Task) (count : ℕ) (cuts : List ℕ) where
   abbrev P : CutSource
   P = ofCuts count cuts
 
-  pub part-put : (l : List ℕ) {l₁ l₂ l₃ l₄ : List ℕ} → l₁ ≡ putField 0 4 2 l → l₂ ≡ putField 4 8 count l₁ → l₃ ≡ packed 12 (each count (cutPart t (cutLent cuts))) l₂
-      → l₄ ≡ putField (12 + count * 44) (fillBits (12 + count * 44)) 0 l₃ → l₄ ≡ packed 0 (cutEntries t P) l
-  unfolding cutEntries cutFields cutHeader cutBits fillPart ofCuts packed
-  part-put l {l₁} {l₂} {l₃} e₁ e₂ e₃ e₄ =
+  pub part-put : (l : List ℕ) {l₁ l₂ l₃ l₄ : List ℕ} {b : ℕ} → l₁ ≡ putField 0 4 2 l → l₂ ≡ putField 4 8 count l₁ → l₃ ≡ packed 12 (each count (cutPart t (cutLent cuts))) l₂
+      → b ≡ cutBits count → l₄ ≡ putField b (fillBits b) 0 l₃ → l₄ ≡ packed 0 (cutEntries t P) l
+  unfolding cutEntries cutFields cutHeader fillPart ofCuts packed
+  part-put l {l₁} {l₂} {l₃} e₁ e₂ e₃ q e₄ =
       let h : l₂ ≡ packed 0 (H t P count) l = e₂ ∙ ap (putField 4 8 count) e₁ in
-      e₄
+      e₄ ∙ ap (λ (x : ℕ). putField x (fillBits x) 0 l₃) q
       ∙ sym
       (packed-append 0 (H t P count) (C t P count ++ F t P count) l
       ∙ ap₂ (λ (x : ℕ) (u : List ℕ). packed x (C t P count ++ F t P count) u) (at-cuts t [] P count) (sym h)

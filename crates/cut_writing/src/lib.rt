@@ -7,9 +7,11 @@ ghost use Rattle.task.specs.Sizes.{limits};
 ghost use Rattle.task.specs.Task.{Task};
 ghost use Rattle.fields.specs.Judging.{refusal, each};
 ghost use Rattle.fields.specs.Packing.{packed};
-ghost use Rattle.cut_sheets.specs.CutPart.{cutPart, cutEntries};
+ghost use Rattle.cut_sheets.specs.CutPart.{cutPart, cutBits, cutEntries};
 ghost use Rattle.cut_sheets.specs.CutSheet.{cutLent, ofCuts, givenChecks};
 ghost use Rattle.cut_writing.specs.CutWriting.{WritesCuts};
+use cut_sheets::cut_bits;
+use cut_sheets::cut_bytes;
 use cut_sheets::judge_lent_cuts;
 use cutting::fill_first;
 use fields::put::put_field;
@@ -36,9 +38,9 @@ fn put_front(front: &[u8], out: &mut [u8])
 
 fn put_cut(out: &mut [u8], cuts: &[u32], i: usize)
     requires { ⌜ (i + 1 < limits .blocks) × (i * 3 + 3 ≤ length (now cuts)) ⌝ }
-    ensures { λ _. ⌜ ((t : Task) → now (out .exit) ≡ packed (12 + i * 44) (cutPart t (cutLent (now (cuts .entry))) i) (now (out .entry))) ⌝ }
+    ensures { λ _. ⌜ ((t : Task) → now (out .exit) ≡ packed (cutBits i) (cutPart t (cutLent (now (cuts .entry))) i) (now (out .entry))) ⌝ }
 {
-    let at = 12 + i * 44;
+    let at = cut_bits(i);
     put_field(out, at, 8, cuts[i * 3]);
     put_field(out, at + 8, 4, cuts[i * 3 + 1]);
     put_field(out, at + 8 + 4, 32, cuts[i * 3 + 2]);
@@ -62,7 +64,7 @@ fn put_cut_part(out: &mut [u8], cuts: &[u32], count: usize)
     put_field(out, 0, 4, 2);
     put_field(out, 4, 8, count as u32);
     put_cuts(out, cuts, count);
-    let bits = 12 + count * 44;
+    let bits = cut_bits(count);
     put_field(out, bits, (8 - bits % 8) % 8, 0);
 }
 
@@ -94,7 +96,7 @@ pub fn write_cuts(model: &[u8], count: usize, cuts: &[u32], sheet: &mut [u8]) ->
         return CutsWritten::Refused(a);
     }
     let start = model.len();
-    let bytes = (12 + count * 44 + 7) / 8;
+    let bytes = cut_bytes(count);
     if sheet.len() < bytes {
         return CutsWritten::Refused(8);
     }

@@ -4,7 +4,7 @@ use native.Mathlib.Nat.{pow-suc, lt-of-lt-of-le}
 use native.Mathlib.Numerals.{add-one}
 use native.Mathlib.Omega.{arith}
 use lib.Pow.{pow-mono}
-use mathlib.Core.Path.{_≡_, refl}
+use mathlib.Core.Path.{_≡_, refl, ap, _∙_}
 use mathlib.Core.List.{List}
 use Rattle.fields.specs.Bits.{bitAt, fieldAt}
 
@@ -27,3 +27,7 @@ field-more s at w = rw add-one refl
 -- a field no wider than m fits what holds m bits
 pub field-fits : (s : List ℕ) (at w : ℕ) {m : ℕ} → w ≤ m → fieldAt s at w < 2 ^ m
 field-fits s at w h = lt-of-lt-of-le (field-lt s at w) (pow-mono h)
+
+-- a field read at a position that is known by another name
+pub read-at : (s : List ℕ) (w : ℕ) {a b v : ℕ} → a ≡ b → v ≡ fieldAt s a w → v ≡ fieldAt s b w
+read-at s w q e = e ∙ ap (λ (x : ℕ). fieldAt s x w) q

@@ -50,6 +50,10 @@ pub record Check : Type 0 where
 abbrev pub check : ℕ → Bool → Check
 check n b = record { number = n; applies = b }
 
+-- bytes follow what ends after so many of them: judged last, by whoever has the end of the whole
+abbrev pub follows : ℕ → List ℕ → Check
+follows end s = check 6 (ltb end (length s))
+
 -- fields in sheet order, each judged as soon as it is complete: 1 where it is not complete, then its value
 unfoldable pub checksOf : List Entry → List Check
 checksOf [] = []

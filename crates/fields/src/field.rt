@@ -4,7 +4,7 @@ ghost use mathlib.Core.List.{[], _∷_};
 ghost use Prim.Native.Nat.{_≤_};
 ghost use lib.Dec.{leb};
 ghost use Rattle.fields.specs.Bits.{fieldAt};
-ghost use Rattle.fields.specs.Judging.{onSheet, entry, free, outside, judged};
+ghost use Rattle.fields.specs.Judging.{onSheet, entry, free, outside, follows, refusal, judged};
 use crate::bits::bit;
 
 // The value of the w bits from a position on.
@@ -61,6 +61,16 @@ pub fn judge_free(s: &[u8], at: usize, w: usize) -> u8
 {
     if s.len() < (at + w + 7) / 8 {
         return 1;
+    }
+    0
+}
+
+// 6 where bytes follow what ends after so many of them, else 0.
+pub fn judge_end(s: &[u8], end: usize) -> u8
+    ensures { λ r. ⌜ r ≡ refusal (follows end (now (s .entry)) ∷ []) ⌝ }
+{
+    if end < s.len() {
+        return 6;
     }
     0
 }

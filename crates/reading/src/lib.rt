@@ -11,6 +11,7 @@ ghost use Rattle.sheets.specs.ModelSheet.{columnOn, costOn, marksOn};
 ghost use Rattle.sheets.specs.LentTables.{columnValues, costValue, markValues, stepValues};
 ghost use Rattle.reading.specs.Reading.{ReadsModel};
 use fields::field::field;
+use sheets::column_bits;
 use sheets::judge_sheet;
 use sheets::model_bits;
 
@@ -41,7 +42,7 @@ fn fill_column(s: &[u8], i: usize, frame: &mut [u8])
     requires { ⌜ (i < limits .columns) × (i * 3 + 3 ≤ length (now frame)) ⌝ }
     ensures { λ _. ⌜ now (frame .exit) ≡ puts (i * 3) (columnValues (columnOn (now (s .entry))) i) (now (frame .entry)) ⌝ }
 {
-    let at = 17 + i * 17;
+    let at = column_bits(i);
     let place = i * 3;
     frame[place] = field(s, at, 6) as u8;
     frame[place + 1] = field(s, at + 6, 5) as u8;

@@ -9,7 +9,7 @@ use borrow.Author.Tests.{leb-true}
 use Rattle.fields.specs.Bits.{fieldAt}
 use Rattle.fields.specs.Judging.{judged}
 use Rattle.fields.proofs.PartLaws.{field-take}
-use Rattle.sheets.specs.ModelSheet.{modelBits, modelBytes, fillBits, fieldsPart, entries, columnsOf, stepsOf, columnOn, costOn, marksOn, sheetWith, ofSheet, judgePart, judgeSheet}
+use Rattle.sheets.specs.ModelSheet.{columnBits, modelBits, modelBytes, fillBits, fieldsPart, entries, columnsOf, stepsOf, columnOn, costOn, marksOn, sheetWith, ofSheet, judgePart, judgeSheet}
 use Rattle.sheets.proofs.SheetLaws.{sheet-whole}
 use Rattle.sheets.proofs.HoldLaws.{Reads, whole-bytes}
 use Rattle.sheets.proofs.RoundLaws.{Fine, Same, accepted, same-fields, reads-same, bits-next, bits-mono, base}
@@ -46,9 +46,9 @@ module _ (s : List ℕ) (ok : judgePart s ≡ 0) where
           form = inside 0 4 (omega (arith, base n m));
           columns = inside 4 5 (omega (arith, base n m));
           steps = inside 9 8 (omega (arith, base n m));
-          size = λ i h. inside (17 + i * 17) 6 (omega (arith, base n m));
-          start = λ i h. inside (17 + i * 17 + 6) 5 (omega (arith, base n m));
-          goal = λ i h. inside (17 + i * 17 + 6 + 5) 6 (omega (arith, base n m));
+          size = λ i h. inside (columnBits i) 6 (omega (arith, base n m));
+          start = λ i h. inside (columnBits i + 6) 5 (omega (arith, base n m));
+          goal = λ i h. inside (columnBits i + 6 + 5) 6 (omega (arith, base n m));
           cost = λ j h. inside (modelBits n j) 16 (omega (arith, within j h));
           need = λ j i h l. inside (modelBits n j + 16 + i * 12) 6 (omega (arith, within j h));
           effect = λ j i h l. inside (modelBits n j + 16 + i * 12 + 6) 6 (omega (arith, within j h));

@@ -14,7 +14,7 @@ use Rattle.fields.specs.Packing.{bitsIn, sheetOf}
 use Rattle.fields.proofs.JudgingLaws.{first-fine, fine, judged-at, inside-means, sheet-here, each-ext}
 use Rattle.fields.proofs.PutLaws.{Bytes}
 use Rattle.fields.proofs.PackingLaws.{Holds, Fit, fit-append, fit-each, holds-fit, sheet-length, sheet-holds, sheet-only}
-use Rattle.sheets.specs.ModelSheet.{Source, ColumnFields, MarkFields, headerPart, columnPart, marksPart, stepPart, fillPart, modelBits, modelBytes, fillBits, fieldsPart, columnsIn, stepsIn, entries, columnsOf, stepsOf, columnOn, costOn, marksOn, sheetWith, ofSheet, judgePart, judgeSheet}
+use Rattle.sheets.specs.ModelSheet.{Source, ColumnFields, MarkFields, headerPart, columnPart, marksPart, stepPart, fillPart, columnBits, modelBits, modelBytes, fillBits, fieldsPart, columnsIn, stepsIn, entries, columnsOf, stepsOf, columnOn, costOn, marksOn, sheetWith, ofSheet, judgePart, judgeSheet}
 use Rattle.sheets.proofs.SheetLaws.{H, C, S, F, parts-fine, HeaderFine, header-fine, sheet-fine, sheet-whole}
 use Rattle.sheets.proofs.HoldLaws.{Reads, holds-reads, reads-holds, sheet-bits, whole-bytes}
 
@@ -130,7 +130,7 @@ pub bits-mono : (n a b : ℕ) → a ≤ b → modelBits n a ≤ modelBits n b
 unfolding modelBits
 bits-mono n a b h = omega (arith, mul-le-mul {n₁ = a} {m₁ = 16 + n * 12} {n₂ = b} {m₂ = 16 + n * 12} h (le-refl (16 + n * 12)))
 
-pub base : (n m : ℕ) → 17 + n * 17 ≤ modelBits n m
+pub base : (n m : ℕ) → columnBits n ≤ modelBits n m
 unfolding modelBits
 base n m = omega arith
 
@@ -150,9 +150,9 @@ module _ (s : List ℕ) (p : Source) (n m : ℕ) (ok : Fine p n m) (r : Reads s 
         columns = same-field _ _ (here 4 5 (omega (arith, base n m))) (ok .header .complete .1) (r .columns);
         steps = same-field _ _ (here 9 8 (omega (arith, base n m))) (ok .header .complete .2) (r .steps);
         column = λ i h k. record {
-          size = same-field (onSheet s (17 + i * 17) 6) (p .column i .size) (here (17 + i * 17) 6 (omega (arith, base n m))) (ok .size i h .0) (r .size i h) k;
-          start = same-field (onSheet s (17 + i * 17 + 6) 5) (p .column i .start) (here (17 + i * 17 + 6) 5 (omega (arith, base n m))) (ok .start i h .0) (r .start i h) k;
-          goal = same-field (onSheet s (17 + i * 17 + 6 + 5) 6) (p .column i .goal) (here (17 + i * 17 + 6 + 5) 6 (omega (arith, base n m))) (ok .goal i h .0) (r .goal i h) k;
+          size = same-field (onSheet s (columnBits i) 6) (p .column i .size) (here (columnBits i) 6 (omega (arith, base n m))) (ok .size i h .0) (r .size i h) k;
+          start = same-field (onSheet s (columnBits i + 6) 5) (p .column i .start) (here (columnBits i + 6) 5 (omega (arith, base n m))) (ok .start i h .0) (r .start i h) k;
+          goal = same-field (onSheet s (columnBits i + 6 + 5) 6) (p .column i .goal) (here (columnBits i + 6 + 5) 6 (omega (arith, base n m))) (ok .goal i h .0) (r .goal i h) k;
         };
         cost = λ j h. same-field _ _ (here (modelBits n j) 16 (omega (arith, below j h))) (ok .cost j h) (r .cost j h);
         marks = λ j i h l k. record {

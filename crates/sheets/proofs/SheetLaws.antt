@@ -1,5 +1,5 @@
 -- Laws of judging a model sheet.
-use Prim.Native.Nat.{ℕ, _+_, _*_, _≤_, _<_}
+use Prim.Native.Nat.{ℕ, _+_, _*_, _≤_}
 use native.Mathlib.Nat.{mul-le-mul}
 use native.Mathlib.Omega.{arith}
 use mathlib.Core.Path.{_≡_, ap, ap₂, _∙_}
@@ -7,16 +7,17 @@ use mathlib.Core.Bool.{true}
 use mathlib.Core.List.{List, [], _∷_, _++_}
 use lib.ListN.{length}
 use lib.Dec.{leb}
-use borrow.Author.Tests.{lt-ltb, le-ltb, ltb-false}
+use borrow.Author.Tests.{le-ltb, ltb-false}
 use Rattle.fields.specs.Bits.{fieldAt}
-use Rattle.fields.specs.Judging.{Field, Entry, Check, onSheet, entry, free, outside, judged, each}
-use Rattle.fields.proofs.JudgingLaws.{both, stopped, went, first-fine, inside-means, last-both, last-stopped, last-went, applies, passes, passed, no-checks}
-use Rattle.sheets.specs.ModelSheet.{Source, ColumnFields, MarkFields, headerPart, columnPart, marksPart, stepPart, fillPart, modelBits, modelBytes, fillBits, fieldsPart, entries, columnsOf, stepsOf, sheetWith, ofSheet, followCheck, judgePart, sheetChecks, judgeSheet}
+use Rattle.task.specs.Sizes.{limits}
+use Rattle.fields.specs.Judging.{Field, Entry, Check, onSheet, entry, free, outside, follows, refusal, judged, each}
+use Rattle.fields.proofs.JudgingLaws.{both, stopped, went, first-fine, inside-means, last-both, last-stopped, last-went, passes, passed, no-checks}
+use Rattle.sheets.specs.ModelSheet.{Source, ColumnFields, MarkFields, headerPart, columnPart, marksPart, stepPart, fillPart, modelBits, mostBits, fillBits, fieldsPart, entries, columnsOf, stepsOf, sheetWith, ofSheet, modelEnd, judgePart, sheetChecks, judgeSheet}
 
 -- the steps of a model lie low
-pub bits-le : (n j : ℕ) → n ≤ 16 → j ≤ 128 → modelBits n j ≤ 26913
+pub bits-le : (n j : ℕ) → n ≤ limits .columns → j ≤ limits .steps → modelBits n j ≤ mostBits
 unfolding modelBits
-bits-le n j hn hj = omega (arith, mul-le-mul {n₁ = j} {m₁ = 16 + n * 12} {n₂ = 128} {m₂ = 208} hj (omega arith))
+bits-le n j hn hj = omega (arith, mul-le-mul {n₁ = j} {m₁ = 16 + n * 12} {n₂ = limits .steps} {m₂ = 16 + limits .columns * 12} hj (omega arith))
 
 -- a header that is not refused: its form is 1, with 1 to 16 columns and at most 128 steps
 pub record HeaderFine (f c m : Field) : Type 0 where
@@ -111,6 +112,9 @@ module _ (c : ℕ → ColumnFields) (cost : ℕ → Field) (k : ℕ → ℕ → 
 pub field-at : (s : List ℕ) (w low high code : ℕ) {a b x : ℕ} → a ≡ b → x ≡ judged (entry w (onSheet s a w) code (outside low high (fieldAt s a w)) ∷ []) → x ≡ judged (entry w (onSheet s b w) code (outside low high (fieldAt s b w)) ∷ [])
 field-at s w low high code q e = e ∙ ap (λ (x : ℕ). judged (entry w (onSheet s x w) code (outside low high (fieldAt s x w)) ∷ [])) q
 
+pub below-at : (s : List ℕ) (w size code : ℕ) {a b x : ℕ} → a ≡ b → x ≡ judged (entry w (onSheet s a w) code (leb size (fieldAt s a w)) ∷ []) → x ≡ judged (entry w (onSheet s b w) code (leb size (fieldAt s b w)) ∷ [])
+below-at s w size code q e = e ∙ ap (λ (x : ℕ). judged (entry w (onSheet s x w) code (leb size (fieldAt s x w)) ∷ [])) q
+
 pub free-at : (s : List ℕ) (w : ℕ) {a b x : ℕ} → a ≡ b → x ≡ judged (free w (onSheet s a w) ∷ []) → x ≡ judged (free w (onSheet s b w) ∷ [])
 free-at s w q e = e ∙ ap (λ (x : ℕ). judged (free w (onSheet s x w) ∷ [])) q
 
@@ -167,28 +171,28 @@ part-fine s h = header-fine (onSheet s 0 4) (onSheet s 4 5) (onSheet s 9 8) (par
 
 -- ---- bytes that follow
 module _ (s : List ℕ) where
-  abbrev follows : Check
-  follows = followCheck s
+  abbrev Follows : List Check
+  Follows = follows (modelEnd s) s ∷ []
 
   pub sheet-stopped : {r : ℕ} → r ≡ judgePart s → (r ≡ 0 → ⊥) → r ≡ judgeSheet s
   unfolding judgePart judgeSheet sheetChecks
-  sheet-stopped e h = last-stopped (entries (ofSheet s)) (follows ∷ []) e h
+  sheet-stopped e h = last-stopped (entries (ofSheet s)) Follows e h
 
   module _ {r : ℕ} (e : r ≡ judgePart s) (z : r ≡ 0) where
-    pub sheet-follows : modelBytes (columnsOf s) (stepsOf s) < length s → 6 ≡ judgeSheet s
+    pub sheet-end : {end x : ℕ} → end ≡ modelEnd s → x ≡ refusal (follows end s ∷ []) → x ≡ judgeSheet s
     unfolding judgePart judgeSheet sheetChecks
-    sheet-follows h = last-went (entries (ofSheet s)) (follows ∷ []) e z (applies 6 _ [] (lt-ltb _ _ h) (omega arith))
+    sheet-end q f = last-went (entries (ofSheet s)) Follows e z (f ∙ ap (λ (k : ℕ). refusal (follows k s ∷ [])) q)
 
-    pub sheet-whole : length s ≤ modelBytes (columnsOf s) (stepsOf s) → 0 ≡ judgeSheet s
+    pub sheet-whole : length s ≤ modelEnd s → 0 ≡ judgeSheet s
     unfolding judgePart judgeSheet sheetChecks
-    sheet-whole h = last-went (entries (ofSheet s)) (follows ∷ []) e z (passes 6 _ [] (le-ltb _ _ h) no-checks)
+    sheet-whole h = last-went (entries (ofSheet s)) Follows e z (passes 6 _ [] (le-ltb _ _ h) no-checks)
 
   -- an accepted sheet: its part is, and nothing follows
-  pub sheet-fine : judgeSheet s ≡ 0 → (judgePart s ≡ 0) × (length s ≤ modelBytes (columnsOf s) (stepsOf s))
+  pub sheet-fine : judgeSheet s ≡ 0 → (judgePart s ≡ 0) × (length s ≤ modelEnd s)
   unfolding judgePart judgeSheet sheetChecks
   sheet-fine h =
-      let a = last-both (entries (ofSheet s)) (follows ∷ []) h in
-      (a .0, ltb-false (modelBytes (columnsOf s) (stepsOf s)) (length s) (passed 6 _ [] (omega arith) (a .1) .0))
+      let a = last-both (entries (ofSheet s)) Follows h in
+      (a .0, ltb-false (modelEnd s) (length s) (passed 6 _ [] (omega arith) (a .1) .0))
 
 pub fill-at : (s : List ℕ) {a b x : ℕ} → a ≡ b → x ≡ judged (entry (fillBits a) (onSheet s a (fillBits a)) 6 (outside 0 0 (fieldAt s a (fillBits a))) ∷ []) → x ≡ judged (fillPart b (onSheet s b (fillBits b)))
 unfolding fillPart

@@ -1,11 +1,10 @@
 -- 01, "Sheets" and "Refusal numbers", of the model sheet: its fields in sheet order, how each is judged, and where each stands.
 use Prim.Native.Nat.{ℕ, _+_, _-_, _*_, _%_}
 use mathlib.Core.List.{List, [], _∷_, _++_}
-use lib.ListN.{length}
-use lib.Dec.{leb, ltb}
+use lib.Dec.{leb}
 use Rattle.task.specs.Sizes.{limits}
 use Rattle.fields.specs.Bits.{fieldAt}
-use Rattle.fields.specs.Judging.{Field, Entry, Check, onSheet, entry, free, outside, check, checksOf, refusal, judged, each}
+use Rattle.fields.specs.Judging.{Field, Entry, Check, onSheet, entry, free, outside, follows, checksOf, refusal, judged, each}
 use Rattle.fields.specs.Packing.{bytesFor}
 
 -- the fields of a column
@@ -59,9 +58,17 @@ marksPart c k j i = markEntry (c i) (k j i .need) ∷ markEntry (c i) (k j i .ef
 unfoldable pub stepPart : (ℕ → ColumnFields) → (ℕ → Field) → (ℕ → ℕ → MarkFields) → ℕ → ℕ → List Entry
 stepPart c cost k n j = free 16 (cost j) ∷ each n (marksPart c k j)
 
+-- how many bits the header and n columns take: column n would begin there
+abbrev pub columnBits : ℕ → ℕ
+columnBits n = 17 + n * 17
+
 -- how many bits the fields of n columns and m steps take: step m would begin there
 unfoldable pub modelBits : ℕ → ℕ → ℕ
-modelBits n m = 17 + n * 17 + m * (16 + n * 12)
+modelBits n m = columnBits n + m * (16 + n * 12)
+
+-- no sheet takes more
+abbrev pub mostBits : ℕ
+mostBits = columnBits (limits .columns) + limits .steps * (16 + limits .columns * 12)
 
 -- zero bits fill the last byte
 abbrev pub fillBits : ℕ → ℕ
@@ -94,9 +101,9 @@ stepsOf s = fieldAt s 9 8
 unfoldable pub columnOn : List ℕ → ℕ → ColumnFields
 columnOn s i =
     record {
-      size = onSheet s (17 + i * 17) 6;
-      start = onSheet s (17 + i * 17 + 6) 5;
-      goal = onSheet s (17 + i * 17 + 6 + 5) 6;
+      size = onSheet s (columnBits i) 6;
+      start = onSheet s (columnBits i + 6) 5;
+      goal = onSheet s (columnBits i + 6 + 5) 6;
     }
 
 unfoldable pub costOn : List ℕ → ℕ → ℕ → Field
@@ -130,18 +137,19 @@ ofSheet s = sheetWith s (columnsOf s) (stepsOf s)
 abbrev pub modelBytes : ℕ → ℕ → ℕ
 modelBytes n m = bytesFor (modelBits n m)
 
+-- where the sheet at the front of s ends
+abbrev pub modelEnd : List ℕ → ℕ
+modelEnd s = modelBytes (columnsOf s) (stepsOf s)
+
 -- ---- the refusal of a sheet; 0 for none
 
--- up to the last byte of the sheet that stands at the front of s
+-- of the sheet at the front of s, whatever follows
 unfoldable pub judgePart : List ℕ → ℕ
 judgePart s = judged (entries (ofSheet s))
 
--- bytes that follow come last
-abbrev pub followCheck : List ℕ → Check
-followCheck s = check 6 (ltb (modelBytes (columnsOf s) (stepsOf s)) (length s))
-
+-- of s as a whole: bytes that follow come last
 unfoldable pub sheetChecks : List ℕ → List Check
-sheetChecks s = checksOf (entries (ofSheet s)) ++ (followCheck s ∷ [])
+sheetChecks s = checksOf (entries (ofSheet s)) ++ (follows (modelEnd s) s ∷ [])
 
 unfoldable pub judgeSheet : List ℕ → ℕ
 judgeSheet s = refusal (sheetChecks s)

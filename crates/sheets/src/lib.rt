@@ -3,19 +3,37 @@ ghost use mathlib.Core.Path.{_≡_};
 ghost use Prim.Native.Nat.{_≤_, _<_};
 ghost use Rattle.task.specs.Sizes.{limits};
 ghost use Rattle.fields.specs.Judging.{onSheet, judged, each};
-ghost use Rattle.sheets.specs.ModelSheet.{modelBits, headerPart, columnPart, marksPart, stepPart, columnOn, costOn, marksOn, judgePart, judgeSheet};
+ghost use Rattle.sheets.specs.ModelSheet.{columnBits, modelBits, mostBits, modelBytes, modelEnd, judgePart, judgeSheet};
+ghost use Rattle.sheets.specs.ModelSheet.{headerPart, columnPart, marksPart, stepPart, columnOn, costOn, marksOn};
 use fields::field::field;
 use fields::field::judge_below;
+use fields::field::judge_end;
 use fields::field::judge_field;
 use fields::field::judge_free;
 use task::Model;
 
+// Where column i begins: how many bits the header and so many columns take.
+pub fn column_bits(i: usize) -> usize
+    requires { ⌜ i ≤ limits .columns ⌝ }
+    ensures { λ r. ⌜ (r ≡ columnBits i) × (r ≤ mostBits) ⌝ }
+{
+    17 + i * 17
+}
+
 // How many bits the fields of so many columns and steps take. The next step would begin there.
 pub fn model_bits(columns: usize, steps: usize) -> usize
     requires { ⌜ (columns ≤ limits .columns) × (steps ≤ limits .steps) ⌝ }
-    ensures { λ r. ⌜ (r ≡ modelBits columns steps) × (r ≤ 26913) ⌝ }
+    ensures { λ r. ⌜ (r ≡ modelBits columns steps) × (r ≤ mostBits) ⌝ }
 {
-    17 + columns * 17 + steps * (16 + columns * 12)
+    column_bits(columns) + steps * (16 + columns * 12)
+}
+
+// How many bytes a sheet of so many columns and steps has.
+pub fn model_bytes(columns: usize, steps: usize) -> usize
+    requires { ⌜ (columns ≤ limits .columns) × (steps ≤ limits .steps) ⌝ }
+    ensures { λ r. ⌜ r ≡ modelBytes columns steps ⌝ }
+{
+    (model_bits(columns, steps) + 7) / 8
 }
 
 fn judge_header(s: &[u8]) -> u8
@@ -36,7 +54,7 @@ fn judge_column(s: &[u8], i: usize) -> u8
     requires { ⌜ i < limits .columns ⌝ }
     ensures { λ r. ⌜ r ≡ judged (columnPart (columnOn (now (s .entry))) i) ⌝ }
 {
-    let at = 17 + i * 17;
+    let at = column_bits(i);
     let a = judge_field(s, at, 6, 1, Model::POSITIONS as u32, 4);
     if a != 0 {
         return a;
@@ -68,7 +86,7 @@ fn judge_marks(s: &[u8], n: usize, j: usize, i: usize) -> u8
     requires { ⌜ (n ≤ limits .columns) × (j < limits .steps) × (i < limits .columns) ⌝ }
     ensures { λ r. ⌜ r ≡ judged (marksPart (columnOn (now (s .entry))) (marksOn (now (s .entry)) n) j i) ⌝ }
 {
-    let size = field(s, 17 + i * 17, 6);
+    let size = field(s, column_bits(i), 6);
     let at = model_bits(n, j) + 16 + i * 12;
     let a = judge_field(s, at, 6, 0, size, 5);
     if a != 0 {
@@ -111,7 +129,7 @@ fn judge_steps(s: &[u8], n: usize, m: usize) -> u8
     0
 }
 
-// The refusal of the sheet at the front of s, without the test for bytes that follow; 0 for none.
+// The refusal of the sheet at the front of s, whatever follows; 0 for none.
 pub fn judge_part(s: &[u8]) -> u8
     ensures { λ r. ⌜ r ≡ judgePart (now (s .entry)) ⌝ }
 {
@@ -133,7 +151,17 @@ pub fn judge_part(s: &[u8]) -> u8
     judge_field(s, bits, (8 - bits % 8) % 8, 0, 0, 6)
 }
 
-// The refusal of a model sheet; 0 for none.
+// Where the accepted sheet at the front of s ends.
+pub fn model_end(s: &[u8]) -> usize
+    requires { ⌜ judgePart (now s) ≡ 0 ⌝ }
+    ensures { λ r. ⌜ r ≡ modelEnd (now (s .entry)) ⌝ }
+{
+    let n = field(s, 4, 5) as usize;
+    let m = field(s, 9, 8) as usize;
+    model_bytes(n, m)
+}
+
+// The refusal of a model sheet that nothing follows; 0 for none.
 pub fn judge_sheet(s: &[u8]) -> u8
     ensures { λ r. ⌜ r ≡ judgeSheet (now (s .entry)) ⌝ }
 {
@@ -141,10 +169,5 @@ pub fn judge_sheet(s: &[u8]) -> u8
     if a != 0 {
         return a;
     }
-    let n = field(s, 4, 5) as usize;
-    let m = field(s, 9, 8) as usize;
-    if (model_bits(n, m) + 7) / 8 < s.len() {
-        return 6;
-    }
-    0
+    judge_end(s, model_end(s))
 }

@@ -8,7 +8,7 @@ use Rattle.task.specs.Task.{position}
 use Rattle.task.specs.Tables.{mark}
 use Rattle.fields.specs.Bits.{fieldAt}
 use Rattle.fields.specs.Judging.{unlessRefused}
-use Rattle.sheets.specs.ModelSheet.{modelBits, ofSheet, judgeSheet}
+use Rattle.sheets.specs.ModelSheet.{columnBits, modelBits, ofSheet, judgeSheet}
 use Rattle.sheets.specs.Holding.{modelOf, noModel}
 use Rattle.unpack.specs.declared.Read.{Read}
 
@@ -21,13 +21,13 @@ unpacked s = unlessRefused (judgeSheet s) (answer 0 (modelOf (ofSheet s))) (λ n
 
 -- ---- what the parts of the code put into each table
 unfoldable pub sizeOn : List ℕ → ℕ → ℕ
-sizeOn s i = fieldAt s (17 + i * 17) 6
+sizeOn s i = fieldAt s (columnBits i) 6
 
 unfoldable pub startOn : List ℕ → ℕ → Position
-startOn s i = position (fieldAt s (17 + i * 17 + 6) 5)
+startOn s i = position (fieldAt s (columnBits i + 6) 5)
 
 unfoldable pub goalOn : List ℕ → ℕ → Mark
-goalOn s i = mark (fieldAt s (17 + i * 17 + 6 + 5) 6)
+goalOn s i = mark (fieldAt s (columnBits i + 6 + 5) 6)
 
 unfoldable pub tenthsOn : List ℕ → ℕ → ℕ → ℕ
 tenthsOn s n j = fieldAt s (modelBits n j) 16

@@ -9,6 +9,7 @@ ghost use Rattle.sheets.specs.ModelSheet.{columnsOf, stepsOf, ofSheet};
 ghost use Rattle.sheets.specs.Holding.{unused, markPlace, markTable, modelOf, noModel};
 ghost use Rattle.unpack.specs.Unpacking.{sizeOn, startOn, goalOn, tenthsOn, markOn, unpacked};
 use fields::field::field;
+use sheets::column_bits;
 use sheets::judge_sheet;
 use sheets::model_bits;
 use task::Mark;
@@ -28,7 +29,7 @@ fn sizes(s: &[u8], n: usize) -> [u8; Model::COLUMNS]
     let mut t = [0u8; Model::COLUMNS];
     let mut i: usize = 0;
     while i < n {
-        t[i] = field(s, 17 + i * 17, 6) as u8;
+        t[i] = field(s, column_bits(i), 6) as u8;
         i += 1;
     }
     t
@@ -41,7 +42,7 @@ fn starts(s: &[u8], n: usize) -> [Position; Model::COLUMNS]
     let mut t = [Position(0); Model::COLUMNS];
     let mut i: usize = 0;
     while i < n {
-        t[i] = Position(field(s, 17 + i * 17 + 6, 5) as u8);
+        t[i] = Position(field(s, column_bits(i) + 6, 5) as u8);
         i += 1;
     }
     t
@@ -54,7 +55,7 @@ fn goals(s: &[u8], n: usize) -> [Mark; Model::COLUMNS]
     let mut t = [Mark(0); Model::COLUMNS];
     let mut i: usize = 0;
     while i < n {
-        t[i] = Mark(field(s, 17 + i * 17 + 6 + 5, 6) as u8);
+        t[i] = Mark(field(s, column_bits(i) + 6 + 5, 6) as u8);
         i += 1;
     }
     t

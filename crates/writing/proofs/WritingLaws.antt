@@ -13,7 +13,7 @@ use Rattle.fields.specs.Packing.{packed}
 use Rattle.fields.proofs.JudgingLaws.{good, inside, went, judged-append, last-stopped, last-went, applies, passes, no-checks, refused-is}
 use Rattle.fields.proofs.PutLaws.{Bytes}
 use Rattle.fields.proofs.PackingLaws.{packed-append, packed-over}
-use Rattle.sheets.specs.ModelSheet.{Source, columnsIn, stepsIn, headerPart, columnPart, stepPart, fillPart, fieldsPart, entries, modelBits, modelBytes, fillBits}
+use Rattle.sheets.specs.ModelSheet.{Source, columnsIn, stepsIn, headerPart, columnPart, stepPart, fillPart, fieldsPart, entries, columnBits, modelBits, modelBytes, fillBits}
 use Rattle.sheets.specs.LentTables.{columnIn, marksIn, ofTables, tooFew, writeChecks}
 use Rattle.sheets.proofs.SheetLaws.{H, C, S, F, part-header, part-columns, parts-fine, header-fine}
 use Rattle.sheets.proofs.HoldLaws.{at-columns, at-steps, at-fill, sheet-bits, whole-bytes}
@@ -64,14 +64,14 @@ module _ (n m : ℕ) (frame costs marks : List ℕ) where
         (went (C P n m) (S P n m ++ F P n m) g w (k ∙ sym (judged-append (S P n m) (F P n m) ∙ then-none (judged (S P n m)) (judged (F P n m)) no-fill)))
 
   -- the fields of a writer, put part after part
-  pub parts-put : (l : List ℕ) {l₁ l₂ l₃ l₄ : List ℕ} {b : ℕ} → l₁ ≡ packed 0 (headerPart (given 1) (given n) (given m)) l → l₂ ≡ packed 17 (each n (columnPart (columnIn frame))) l₁ → l₃ ≡ packed (17 + n * 17) (each m (stepPart (columnIn frame) (inTable costs) (marksIn marks n) n)) l₂ → b ≡ modelBits n m → l₄ ≡ putField b (fillBits b) 0 l₃ → l₄ ≡ packed 0 (entries P) l
+  pub parts-put : (l : List ℕ) {l₁ l₂ l₃ l₄ : List ℕ} {b : ℕ} → l₁ ≡ packed 0 (headerPart (given 1) (given n) (given m)) l → l₂ ≡ packed 17 (each n (columnPart (columnIn frame))) l₁ → l₃ ≡ packed (columnBits n) (each m (stepPart (columnIn frame) (inTable costs) (marksIn marks n) n)) l₂ → b ≡ modelBits n m → l₄ ≡ putField b (fillBits b) 0 l₃ → l₄ ≡ packed 0 (entries P) l
   unfolding entries fieldsPart ofTables
   parts-put l {l₁} {l₂} {l₃} e₁ e₂ e₃ q e₄ =
       e₄ ∙ ap (λ (x : ℕ). putField x (fillBits x) 0 l₃) q ∙ fill-put
       ∙ sym
       (packed-append 0 (H P n m) (C P n m ++ (S P n m ++ F P n m)) l ∙ ap₂ (λ (x : ℕ) (t : List ℕ). packed x (C P n m ++ (S P n m ++ F P n m)) t) (at-columns [] P n m) (sym e₁)
       ∙ packed-append 17 (C P n m) (S P n m ++ F P n m) l₁ ∙ ap₂ (λ (x : ℕ) (t : List ℕ). packed x (S P n m ++ F P n m) t) (at-steps [] P n m) (sym e₂)
-      ∙ packed-append (17 + n * 17) (S P n m) (F P n m) l₂ ∙ ap₂ (λ (x : ℕ) (t : List ℕ). packed x (F P n m) t) (at-fill [] P n m) (sym e₃))
+      ∙ packed-append (columnBits n) (S P n m) (F P n m) l₂ ∙ ap₂ (λ (x : ℕ) (t : List ℕ). packed x (F P n m) t) (at-fill [] P n m) (sym e₃))
     where
       fill-put : putField (modelBits n m) (fillBits (modelBits n m)) 0 l₃ ≡ packed (modelBits n m) (fillPart (modelBits n m) (given 0)) l₃
       fill-put = put-fill (modelBits n m) l₃

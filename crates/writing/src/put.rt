@@ -4,11 +4,12 @@ ghost use Prim.Native.Nat.{_+_, _*_, _≤_, _<_};
 ghost use Rattle.task.specs.Sizes.{limits};
 ghost use Rattle.fields.specs.Judging.{given, inTable, each};
 ghost use Rattle.fields.specs.Packing.{packed};
-ghost use Rattle.sheets.specs.ModelSheet.{modelBits, headerPart, columnPart, marksPart, stepPart, entries};
+ghost use Rattle.sheets.specs.ModelSheet.{columnBits, modelBits, headerPart, columnPart, marksPart, stepPart, entries};
 ghost use Rattle.sheets.specs.LentTables.{columnIn, marksIn, ofTables};
 use fields::place::place;
 use fields::place::wide_place;
 use fields::put::put_field;
+use sheets::column_bits;
 use sheets::model_bits;
 
 fn put_header(out: &mut [u8], n: usize, m: usize)
@@ -22,9 +23,9 @@ fn put_header(out: &mut [u8], n: usize, m: usize)
 
 fn put_column(out: &mut [u8], frame: &[u8], i: usize)
     requires { ⌜ i < limits .columns ⌝ }
-    ensures { λ _. ⌜ now (out .exit) ≡ packed (17 + i * 17) (columnPart (columnIn (now (frame .entry))) i) (now (out .entry)) ⌝ }
+    ensures { λ _. ⌜ now (out .exit) ≡ packed (columnBits i) (columnPart (columnIn (now (frame .entry))) i) (now (out .entry)) ⌝ }
 {
-    let at = 17 + i * 17;
+    let at = column_bits(i);
     put_field(out, at, 6, place(frame, i * 3));
     put_field(out, at + 6, 5, place(frame, i * 3 + 1));
     put_field(out, at + 6 + 5, 6, place(frame, i * 3 + 2));
@@ -67,7 +68,7 @@ fn put_step(out: &mut [u8], frame: &[u8], costs: &[u16], marks: &[u8], n: usize,
 
 fn put_steps(out: &mut [u8], frame: &[u8], costs: &[u16], marks: &[u8], n: usize, m: usize)
     requires { ⌜ (n ≤ limits .columns) × (m ≤ limits .steps) ⌝ }
-    ensures { λ _. ⌜ now (out .exit) ≡ packed (17 + n * 17) (each m (stepPart (columnIn (now (frame .entry))) (inTable (now (costs .entry))) (marksIn (now (marks .entry)) n) n)) (now (out .entry)) ⌝ }
+    ensures { λ _. ⌜ now (out .exit) ≡ packed (columnBits n) (each m (stepPart (columnIn (now (frame .entry))) (inTable (now (costs .entry))) (marksIn (now (marks .entry)) n) n)) (now (out .entry)) ⌝ }
 {
     let mut j: usize = 0;
     while j < m {

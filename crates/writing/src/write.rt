@@ -2,7 +2,7 @@
 ghost use Rattle.writing.specs.Writing.{WritesModel};
 use crate::given::judge_given;
 use crate::put::put_sheet;
-use sheets::model_bits;
+use sheets::model_bytes;
 
 // The number of bytes written, or a refusal.
 pub enum SheetWritten {
@@ -26,7 +26,7 @@ pub fn write_model(
     if a != 0 {
         return SheetWritten::Refused(a);
     }
-    let bytes = (model_bits(columns, steps) + 7) / 8;
+    let bytes = model_bytes(columns, steps);
     if sheet.len() < bytes {
         return SheetWritten::Refused(8);
     }

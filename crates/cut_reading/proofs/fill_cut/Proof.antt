@@ -1,5 +1,7 @@
-use Prim.Native.Nat.{_+_, _*_}
+use Prim.Native.Nat.{ℕ, _+_, _*_}
 use native.Mathlib.Omega.{arith}
+use mathlib.Core.Path.{ap}
+use Rattle.fields.proofs.FieldLaws.{read-at}
 use lib.ListN.{set, length-set}
 use Rattle.cut_sheets.specs.CutPart.{cutOn}
 use Rattle.cut_sheets.specs.CutSheet.{cutValues}
@@ -8,11 +10,8 @@ use borrow.Author.Needs.{needs}
 use Rattle.cut_reading.proofs.fill_cut.Statement.{statement}
 use Rattle.cut_reading.proofs.fill_cut.Tie as tie
 
-mul-at : tie.Need-mul-at
-mul-at c = search needs
-
-add-at : tie.Need-add-at
-add-at c = search needs
+cut-bits-requires : tie.Need-cut-bits-requires
+cut-bits-requires c κs = search needs
 
 mul-place : tie.Need-mul-place
 mul-place c = search needs
@@ -67,15 +66,20 @@ same-length c = search needs
 
 returns : tie.Need-returns
 unfolding puts cutValues cutOn
-returns c = let a = c .before .before .before .before .before .args in
-    λ k. set (set (set (a .cuts .now) (a .i * 3) (c .before .before .field .ensures k)) (a .i * 3 + 1) (c .before .field2 .ensures k)) (a .i * 3 + 1 + 1) (c .field3 .ensures k)
+returns c = let p = c .before .before .before in
+    let a = p .before .before .before .args in
+    let s = a .part .now in
+    let q = p .cut-bits .ensures .0 in
+    λ k.
+    set
+    (set (set (a .cuts .now) (a .i * 3) (read-at s 8 q (c .before .before .field .ensures) k)) (a .i * 3 + 1) (read-at s 4 (ap (λ (x : ℕ). x + 8) q) (c .before .field2 .ensures) k))
+    (a .i * 3 + 1 + 1) (read-at s 32 (ap (λ (x : ℕ). x + 8 + 4) q) (c .field3 .ensures) k)
 
 pub fill-cut-spec : {M : Type 1} → statement M
 fill-cut-spec =
     tie.close
     (tie.spec
-    mul-at
-    add-at
+    cut-bits-requires
     mul-place
     field-requires
     mul-cuts

@@ -2,6 +2,7 @@ use native.Mathlib.Omega.{arith}
 use Prim.Native.Nat.{_-_, _*_, _≤_}
 use mathlib.Core.Path.{_≡_, sym, ap, _∙_}
 use lib.ListN.{length, length-set}
+use Rattle.fields.proofs.FieldLaws.{read-at}
 use Rattle.task.specs.Loops.{tab, over}
 use Rattle.task.specs.Sizes.{limits}
 use Rattle.task.proofs.LoopLaws.{over-none}
@@ -24,59 +25,51 @@ Inv-loop model columns sets₀ j₀ sets j = (j ≤ columns) × (columns ≤ lim
 abbrev μ-loop : tie.MeasureT-loop
 μ-loop model columns sets₀ j₀ sets j = columns - j
 
--- src/lib.rt:56:5
 loop-holds : tie.Need-loop-holds Inv-loop μ-loop
 loop-holds c = let p = c .before .pre in (omega arith, columns-small (c .before .args .model .now) (p .0) (p .1), p .2, sym (over-none _ _))
 
--- src/lib.rt:57:38
-mul-field : tie.Need-mul-field Inv-loop μ-loop
-mul-field c = search needs
+column-bits-requires : tie.Need-column-bits-requires Inv-loop μ-loop
+column-bits-requires c κs = let i = c .before .loop .inv in omega (arith, c .loop-test .taken, i .1)
 
--- src/lib.rt:57:33
-add-field : tie.Need-add-field Inv-loop μ-loop
-add-field c = search needs
-
--- src/lib.rt:57:20
 field-requires : tie.Need-field-requires Inv-loop μ-loop
 field-requires c κs = search needs
 
--- src/lib.rt:57:20
 cast-size : tie.Need-cast-size Inv-loop μ-loop
 unfolding sizeOn
-cast-size c = let p = c .before .before .before .before .pre in
-    let h = size-small (c .before .before .before .before .args .model .now) (p .0) (p .1) (c .before .before .loop .j) (c .before .loop-test .taken) (c .field .ensures) in
+cast-size c = let l = c .before .before .before .loop in
+    let b = c .before .before .before .before .before in
+    let m = b .args .model .now in
+    let h = size-small m (b .pre .0) (b .pre .1) (l .j) (c .before .before .loop-test .taken) (read-at m 6 (c .before .column-bits .ensures .0) (c .field .ensures)) in
     search (needs, h)
 
--- src/lib.rt:58:19
 every-position-requires : tie.Need-every-position-requires Inv-loop μ-loop
 unfolding sizeOn
-every-position-requires c κs = let p = c .before .before .before .before .pre in
-    size-small (c .before .before .before .before .args .model .now) (p .0) (p .1) (c .before .before .loop .j) (c .before .loop-test .taken) (c .field .ensures)
+every-position-requires c κs = let l = c .before .before .before .loop in
+    let b = c .before .before .before .before .before in
+    let m = b .args .model .now in
+    size-small m (b .pre .0) (b .pre .1) (l .j) (c .before .before .loop-test .taken) (read-at m 6 (c .before .column-bits .ensures .0) (c .field .ensures))
 
--- src/lib.rt:58:9
 mul-sets : tie.Need-mul-sets Inv-loop μ-loop
 mul-sets c = search needs
 
--- src/lib.rt:58:9
 element-write-sets : tie.Need-element-write-sets Inv-loop μ-loop
 element-write-sets c = search needs
 
--- src/lib.rt:59:9
 add-j : tie.Need-add-j Inv-loop μ-loop
 add-j c = search needs
 
--- src/lib.rt:56:5
 loop-less : tie.Need-loop-less Inv-loop μ-loop
 loop-less c = search needs
 
--- src/lib.rt:56:5
 loop-again : tie.Need-loop-again Inv-loop μ-loop
 unfolding wholeOn sizeOn
-loop-again c = let l = c .before .before .before .loop in
-    let g = c .before .before .before .before .before .args in
-    (omega (arith, c .before .before .loop-test .taken), l .inv .1, simp length-set (l .inv .2), over-set (wholeOn (g .model .now)) (l .j) _ (l .sets) (g .sets .now) (l .inv .3) (omega (arith, c .before .before .loop-test .taken, l .inv .1, c .before .before .before .before .before .pre .2)) (c .every-position .ensures ∙ ap every (c .before .field .ensures)))
+loop-again c = let l = c .before .before .before .before .loop in
+    let b = c .before .before .before .before .before .before in
+    let g = b .args in
+    let t = c .before .before .before .loop-test .taken in
+    let e = read-at (g .model .now) 6 (c .before .before .column-bits .ensures .0) (c .before .field .ensures) in
+    (omega (arith, t), l .inv .1, simp length-set (l .inv .2), over-set (wholeOn (g .model .now)) (l .j) _ (l .sets) (g .sets .now) (l .inv .3) (omega (arith, t, l .inv .1, b .pre .2)) (c .every-position .ensures ∙ ap every e))
 
--- src/lib.rt:47:1
 returns : tie.Need-returns Inv-loop μ-loop
 returns c = let l = c .before .loop in
     let g = c .before .before .before .args in
@@ -90,8 +83,7 @@ fill-whole-spec =
     Inv-loop
     μ-loop
     loop-holds
-    mul-field
-    add-field
+    column-bits-requires
     field-requires
     cast-size
     every-position-requires

@@ -11,82 +11,68 @@ use Rattle.cut_reading.proofs.judge_cut_sheet.Reads as reads
 use Rattle.cut_reading.proofs.judge_cut_sheet.Lts as lts
 use Rattle.cut_reading.proofs.at_front.Reads as at-front-reads
 use Rattle.cut_reading.proofs.fill_whole.Reads as fill-whole-reads
-use Rattle.cut_sheets.proofs.judge_cut_part.Reads as judge-cut-part-reads
+use Rattle.cut_sheets.proofs.judge_cut_tail.Reads as judge-cut-tail-reads
 use Rattle.fields.proofs.field.field.Reads as field-reads
 use Rattle.sheets.proofs.judge_part.Reads as judge-part-reads
 use Rattle.sheets.proofs.judge_sheet.Reads as judge-sheet-reads
 
--- src/lib.rt:72:9
 judge-sheet-requires : tie.Need-judge-sheet-requires
 judge-sheet-requires c κs = search needs
 
--- src/lib.rt:74:9
 returns : tie.Need-returns
 returns c = let g = c .before .before .before .before .args in
     stops-model (g .model .now) (g .sheet .now) _ (c .before .judge-sheet .ensures) (c .if1 .taken)
 
--- src/lib.rt:76:9
 judge-part-requires : tie.Need-judge-part-requires
 judge-part-requires c κs = search needs
 
--- src/lib.rt:78:9
 returns-2 : tie.Need-returns-2
 returns-2 c = let g = c .before .before .before .before .before .before .args in
     stops-inner (g .model .now) (g .sheet .now) _ (sym (c .before .before .before .judge-sheet .ensures) ∙ c .before .before .if1 .left) (c .before .judge-part .ensures) (c .if2 .taken)
 
--- src/lib.rt:80:9
 at-front-requires : tie.Need-at-front-requires
 at-front-requires c κs = search needs
 
--- src/lib.rt:81:9
 returns-3 : tie.Need-returns-3
 returns-3 c = let g = c .before .before .before .before .before .before .before .before .args in
     stops-ten (g .model .now) (g .sheet .now) _ (sym (c .before .before .before .before .before .judge-sheet .ensures) ∙ c .before .before .before .before .if1 .left) (c .before .before .before .judge-part .ensures) (c .before .before .if2 .left)
     (sym (c .before .at-front .ensures) ∙ not-true (c .before .at-front .result) (c .if3 .taken))
 
--- src/lib.rt:83:19
 field-requires : tie.Need-field-requires
 field-requires c κs = search needs
 
--- src/lib.rt:83:19
 cast-columns : tie.Need-cast-columns
 cast-columns c = search needs
 
--- src/lib.rt:84:5
 fill-whole-requires : tie.Need-fill-whole-requires
 fill-whole-requires c κs = ((sym (c .before .before .before .before .before .before .before .judge-sheet .ensures) ∙ c .before .before .before .before .before .before .if1 .left), c .before .field .ensures, c .before .before .before .before .before .before .before .before .before .before .pre)
 
--- src/lib.rt:86:20
-sub-judge-cut-part : tie.Need-sub-judge-cut-part
-sub-judge-cut-part c = let g = c .before .before .before .before .before .before .before .before .before .before .before .args in
+sub-judge-cut-tail : tie.Need-sub-judge-cut-tail
+sub-judge-cut-tail c = let g = c .before .before .before .before .before .before .before .before .before .before .before .args in
     front-take (g .model .now) (g .sheet .now) (sym (c .before .before .before .before .at-front .ensures) ∙ not-false (c .before .before .before .before .at-front .result) (c .before .before .before .if3 .left)) .0
 
--- src/lib.rt:86:20
-part-judge-cut-part-start : tie.Need-part-judge-cut-part-start
-part-judge-cut-part-start c = let g = c .before .before .before .before .before .before .before .before .before .before .before .args in
+part-judge-cut-tail-start : tie.Need-part-judge-cut-tail-start
+part-judge-cut-tail-start c = let g = c .before .before .before .before .before .before .before .before .before .before .before .args in
     let h = front-take (g .model .now) (g .sheet .now) (sym (c .before .before .before .before .at-front .ensures) ∙ not-false (c .before .before .before .before .at-front .result) (c .before .before .before .if3 .left)) .0 in
     search needs
 
--- src/lib.rt:86:20
-part-judge-cut-part-end : tie.Need-part-judge-cut-part-end
-part-judge-cut-part-end c = let g = c .before .before .before .before .before .before .before .before .before .before .before .args in
+part-judge-cut-tail-end : tie.Need-part-judge-cut-tail-end
+part-judge-cut-tail-end c = let g = c .before .before .before .before .before .before .before .before .before .before .before .args in
     let h = front-take (g .model .now) (g .sheet .now) (sym (c .before .before .before .before .at-front .ensures) ∙ not-false (c .before .before .before .before .at-front .result) (c .before .before .before .if3 .left)) .0 in
     search needs
 
--- src/lib.rt:86:5
-judge-cut-part-requires : tie.Need-judge-cut-part-requires
-judge-cut-part-requires c κs = let g = c .before .before .before .before .before .before .before .before .before .before .before .before .before .args in
+judge-cut-tail-requires : tie.Need-judge-cut-tail-requires
+judge-cut-tail-requires c κs = let g = c .before .before .before .before .before .before .before .before .before .before .before .before .before .args in
     let k = (sym (c .before .before .before .before .before .before .before .before .before .before .judge-sheet .ensures) ∙ c .before .before .before .before .before .before .before .before .before .if1 .left) in
     let w = c .before .before .before .before .field .ensures in
     (columns-small (g .model .now) k w, whole-long (g .model .now) k w (g .sets .now) (c .before .before .before .before .before .before .before .before .before .before .before .before .before .pre) (c .before .before .fill-whole .ensures))
 
--- src/lib.rt:64:1
 returns-4 : tie.Need-returns-4
 returns-4 c = let g = c .before .before .before .before .before .before .before .before .before .before .before .before .before .before .args in
     let k = (sym (c .before .before .before .before .before .before .before .before .before .before .before .judge-sheet .ensures) ∙ c .before .before .before .before .before .before .before .before .before .before .if1 .left) in
     let w = c .before .before .before .before .before .field .ensures in
     ends (g .model .now) (g .sheet .now) _ k (wide (g .model .now) k w) (sym (c .before .before .before .before .before .before .before .at-front .ensures) ∙ not-false (c .before .before .before .before .before .before .before .at-front .result) (c .before .before .before .before .before .before .if3 .left)) (rest-all (g .sheet .now) (length (g .model .now)))
-    (c .judge-cut-part .ensures (taskOn (g .model .now)) (wide (g .model .now) k w) (whole-block (g .model .now) k w _ (g .sets .now) (c .before .before .before .fill-whole .ensures)))
+    (c .judge-cut-tail .ensures (taskOn (g .model .now)) (wide (g .model .now) k w) (whole-block (g .model .now) k w _ (g .sets .now) (c .before .before .before .fill-whole .ensures)))
 
 pub judge-cut-sheet-spec : {M : Type 1} → statement M
 judge-cut-sheet-spec =
@@ -101,8 +87,8 @@ judge-cut-sheet-spec =
     field-requires
     cast-columns
     fill-whole-requires
-    sub-judge-cut-part
-    part-judge-cut-part-start
-    part-judge-cut-part-end
-    judge-cut-part-requires
+    sub-judge-cut-tail
+    part-judge-cut-tail-start
+    part-judge-cut-tail-end
+    judge-cut-tail-requires
     returns-4)

@@ -1,5 +1,4 @@
 use native.Mathlib.Omega.{arith}
-use Rattle.cut_sheets.proofs.JudgeLaws.{count-below}
 use Rattle.cut_reading.proofs.RebuildLaws.{sheets-refused, start-within, part-is, places-refused, filled}
 use borrow.Author.Needs.{needs}
 use Rattle.cut_reading.proofs.rebuild.Statement.{statement}
@@ -30,11 +29,8 @@ part-part-end c =
     let h = start-within (g .model .now) (g .sheet .now) (g .cuts .now) (c .before .judge-cut-sheet .ensures) (c .if1 .left) in
     search needs
 
-field-requires : tie.Need-field-requires
-field-requires c κs = search needs
-
-cast-count : tie.Need-cast-count
-cast-count c = search needs
+cut-count-requires : tie.Need-cut-count-requires
+cut-count-requires c κs = search needs
 
 mul-if2 : tie.Need-mul-if2
 mul-if2 c = search needs
@@ -43,10 +39,10 @@ returns-2 : tie.Need-returns-2
 returns-2 c = let g = c .before .before .before .before .before .before .before .before .before .args in
     let j = c .before .before .before .before .judge-cut-sheet .ensures in
     let z = c .before .before .before .if1 .left in
-    places-refused (g .model .now) (g .sheet .now) (g .cuts .now) j z (part-is (g .model .now) (g .sheet .now) (g .cuts .now) j z) (c .before .field .ensures) (c .if2 .taken)
+    places-refused (g .model .now) (g .sheet .now) (g .cuts .now) j z (part-is (g .model .now) (g .sheet .now) (g .cuts .now) j z) (c .before .cut-count .ensures .0) (c .if2 .taken)
 
 fill-cuts-requires : tie.Need-fill-cuts-requires
-fill-cuts-requires c κs = (count-below _ (c .before .before .field .ensures), omega arith)
+fill-cuts-requires c κs = (c .before .before .cut-count .ensures .1, omega arith)
 
 same-length : tie.Need-same-length
 same-length c = search needs
@@ -55,7 +51,7 @@ returns-3 : tie.Need-returns-3
 returns-3 c = let g = c .before .before .before .before .before .before .before .before .before .before .before .before .before .args in
     let j = c .before .before .before .before .before .before .before .before .judge-cut-sheet .ensures in
     let z = c .before .before .before .before .before .before .before .if1 .left in
-    filled (g .model .now) (g .sheet .now) (g .cuts .now) j z (part-is (g .model .now) (g .sheet .now) (g .cuts .now) j z) (c .before .before .before .before .before .field .ensures) (omega arith) (c .before .before .fill-cuts .ensures)
+    filled (g .model .now) (g .sheet .now) (g .cuts .now) j z (part-is (g .model .now) (g .sheet .now) (g .cuts .now) j z) (c .before .before .before .before .before .cut-count .ensures .0) (omega arith) (c .before .before .fill-cuts .ensures)
 
 pub rebuild-spec : {M : Type 1} → statement M
 rebuild-spec =
@@ -66,8 +62,7 @@ rebuild-spec =
     sub-part
     part-part-start
     part-part-end
-    field-requires
-    cast-count
+    cut-count-requires
     mul-if2
     returns-2
     fill-cuts-requires

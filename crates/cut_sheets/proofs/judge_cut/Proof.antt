@@ -7,21 +7,18 @@ use borrow.Author.Needs.{needs}
 use Rattle.cut_sheets.proofs.judge_cut.Statement.{statement}
 use Rattle.cut_sheets.proofs.judge_cut.Tie as tie
 
-mul-if1 : tie.Need-mul-if1
-mul-if1 c = search needs
+add-cut-bits : tie.Need-add-cut-bits
+add-cut-bits c = search needs
+
+cut-bits-requires : tie.Need-cut-bits-requires
+cut-bits-requires c κs = search needs
 
 add-if1 : tie.Need-add-if1
 add-if1 c = search needs
 
-add-if1-2 : tie.Need-add-if1-2
-add-if1-2 c = search needs
-
-add-if1-3 : tie.Need-add-if1-3
-add-if1-3 c = search needs
-
 returns : tie.Need-returns
-returns c = let g = c .before .before .args in
-    (record { block = λ z. absurd (omega arith); column = λ z. absurd (omega arith) }, λ t e m. cut-short t (cutOn (g .s .now)) (g .i) (sheet-short (g .s .now) (g .i) (omega arith)))
+returns c = let g = c .before .before .before .args in
+    (record { block = λ z. absurd (omega arith); column = λ z. absurd (omega arith) }, λ t e m. cut-short t (cutOn (g .s .now)) (g .i) (sheet-short (g .s .now) (g .i) (omega (arith, c .before .cut-bits .ensures .0))))
 
 add-cut-ok : tie.Need-add-cut-ok
 add-cut-ok c = search needs
@@ -33,8 +30,9 @@ cut-ok-requires : tie.Need-cut-ok-requires
 cut-ok-requires c κs = search needs
 
 returns-2 : tie.Need-returns-2
-returns-2 c = let g = c .before .before .before .before .before .args in
-    let w = sheet-whole (g .s .now) (g .i) (omega arith) in
+returns-2 c = let b = c .before .before .before .before in
+    let g = b .before .before .args in
+    let w = sheet-whole (g .s .now) (g .i) (omega (arith, b .cut-bits .ensures .0)) in
     let f = cutOn (g .s .now) in (
       record { block = λ z. absurd (omega arith); column = λ z. absurd (omega arith) },
       λ t e m. cut-bad t f (g .i) (w .0) (w .1) (w .2)
@@ -42,8 +40,9 @@ returns-2 c = let g = c .before .before .before .before .before .args in
     )
 
 returns-3 : tie.Need-returns-3
-returns-3 c = let g = c .before .before .before .before .before .args in
-    let w = sheet-whole (g .s .now) (g .i) (omega arith) in
+returns-3 c = let b = c .before .before .before .before in
+    let g = b .before .before .args in
+    let w = sheet-whole (g .s .now) (g .i) (omega (arith, b .cut-bits .ensures .0)) in
     let f = cutOn (g .s .now) in
     let ok = not-false (c .before .cut-ok .result) (c .if2 .left) in (
       judged-good f (g .sets .now) (g .columns) (g .i) ok (c .before .before .read-cut .ensures) (c .before .cut-ok .ensures),
@@ -54,10 +53,9 @@ pub judge-cut-spec : {M : Type 1} → statement M
 judge-cut-spec =
     tie.close
     (tie.spec
-    mul-if1
+    add-cut-bits
+    cut-bits-requires
     add-if1
-    add-if1-2
-    add-if1-3
     returns
     add-cut-ok
     read-cut-requires

@@ -1,4 +1,5 @@
-use mathlib.Core.Path.{refl}
+use Prim.Native.Nat.{ℕ, _+_}
+use mathlib.Core.Path.{refl, ap}
 use Rattle.fields.specs.Packing.{packed}
 use Rattle.cut_sheets.specs.CutPart.{cutPart}
 use Rattle.cut_sheets.specs.CutSheet.{cutLent}
@@ -7,11 +8,8 @@ use borrow.Author.Needs.{needs}
 use Rattle.cut_writing.proofs.put_cut.Statement.{statement}
 use Rattle.cut_writing.proofs.put_cut.Tie as tie
 
-mul-at : tie.Need-mul-at
-mul-at c = search needs
-
-add-at : tie.Need-add-at
-add-at c = search needs
+cut-bits-requires : tie.Need-cut-bits-requires
+cut-bits-requires c κs = search needs
 
 mul-put-field : tie.Need-mul-put-field
 mul-put-field c = search needs
@@ -69,14 +67,19 @@ same-length c = search needs
 
 returns : tie.Need-returns
 unfolding packed cutPart cutLent
-returns c = λ t. put-next 32 (c .before .before .put-field3 .ensures) refl refl (put-next 4 (c .before .before .before .before .before .before .before .put-field2 .ensures) refl refl (put-next 8 (c .before .before .before .before .before .before .before .before .before .before .before .before .put-field .ensures) refl refl refl))
+returns c = let third = c .before .before in
+    let second = third .before .before .before .before .before in
+    let first = second .before .before .before .before .before in
+    let q = first .before .before .before .cut-bits .ensures .0 in
+    λ t.
+    put-next 32 (third .put-field3 .ensures) (ap (λ (x : ℕ). x + 8 + 4) q) refl
+    (put-next 4 (second .put-field2 .ensures) (ap (λ (x : ℕ). x + 8) q) refl (put-next 8 (first .put-field .ensures) q refl refl))
 
 pub put-cut-spec : {M : Type 1} → statement M
 put-cut-spec =
     tie.close
     (tie.spec
-    mul-at
-    add-at
+    cut-bits-requires
     mul-put-field
     mul-put-field-2
     shared-slice-read-put-field

@@ -15,11 +15,8 @@ put-field-requires-2 c κs = search needs
 put-cuts-requires : tie.Need-put-cuts-requires
 put-cuts-requires c κs = search needs
 
-mul-bits : tie.Need-mul-bits
-mul-bits c = search needs
-
-add-bits : tie.Need-add-bits
-add-bits c = search needs
+cut-bits-requires : tie.Need-cut-bits-requires
+cut-bits-requires c κs = search needs
 
 sub-put-field : tie.Need-sub-put-field
 sub-put-field c = search needs
@@ -31,8 +28,12 @@ same-length : tie.Need-same-length
 same-length c = search needs
 
 returns : tie.Need-returns
-returns c = let g = c .before .before .before .before .before .before .before .before .before .before .before .before .before .before .before .before .before .before .args in
-    λ t. part-put t (g .count) (g .cuts .now) (g .out .now) (c .before .before .before .before .before .before .before .before .before .before .before .before .before .before .put-field .ensures) (c .before .before .before .before .before .before .before .before .before .before .put-field2 .ensures) (c .before .before .before .before .before .before .put-cuts .ensures t) (c .before .before .put-field3 .ensures)
+returns c = let fill = c .before .before in
+    let cuts = fill .before .before .before .before .before in
+    let count = cuts .before .before .before .before in
+    let form = count .before .before .before .before in
+    let g = form .before .before .before .before .args in
+    λ t. part-put t (g .count) (g .cuts .now) (g .out .now) (form .put-field .ensures) (count .put-field2 .ensures) (cuts .put-cuts .ensures t) (fill .before .before .cut-bits .ensures .0) (fill .put-field3 .ensures)
 
 pub put-cut-part-spec : {M : Type 1} → statement M
 put-cut-part-spec =
@@ -42,8 +43,7 @@ put-cut-part-spec =
     cast-put-field
     put-field-requires-2
     put-cuts-requires
-    mul-bits
-    add-bits
+    cut-bits-requires
     sub-put-field
     put-field-requires-3
     same-length

@@ -6,7 +6,7 @@ use Rattle.task.specs.Task.{Task}
 use Rattle.fields.specs.Judging.{each}
 use Rattle.fields.specs.Packing.{packed}
 use Rattle.fields.proofs.PackingLaws.{packed-none, packed-more, packed-end, packed-length}
-use Rattle.cut_sheets.specs.CutPart.{cutPart}
+use Rattle.cut_sheets.specs.CutPart.{cutPart, cutBits}
 use Rattle.cut_sheets.specs.CutSheet.{cutLent}
 use Rattle.cut_sheets.proofs.CutPartLaws.{cut-bits}
 use Rattle.cut_sheets.proofs.JudgeLaws.{anyTask}
@@ -33,6 +33,7 @@ loop-less : tie.Need-loop-less Inv-loop μ-loop
 loop-less c = search needs
 
 loop-again : tie.Need-loop-again Inv-loop μ-loop
+unfolding cutBits
 loop-again c = let g = c .before .before .before .before .before .before .before .before .args in
     let l = c .before .before .before .before .before .loop in
     let f = cutLent (g .cuts .now) in

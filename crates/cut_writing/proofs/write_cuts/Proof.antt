@@ -3,8 +3,6 @@ use mathlib.Core.Path.{refl, sym, _∙_}
 use borrow.Author.Needs.{needs}
 use Rattle.cut_writing.proofs.CutWritingLaws.{given-places, given-ok, given-refused, room-refused, put-written}
 use Prim.Native.Nat.{_+_, _*_}
-use Rattle.fields.specs.Packing.{bytesFor}
-use Rattle.cut_sheets.specs.CutPart.{cutBits}
 use Rattle.cut_writing.proofs.write_cuts.Statement.{statement}
 use Rattle.cut_writing.proofs.write_cuts.Tie as tie
 use Rattle.sheets.specs.Holding.{taskOn}
@@ -16,33 +14,23 @@ returns : tie.Need-returns
 returns c = let g = c .before .before .before .before .before .args in
     given-refused (g .model .now) (g .count) (g .cuts .now) (g .sheet .now) (c .before .judge-given .ensures) (c .if1 .taken)
 
-mul-bytes : tie.Need-mul-bytes
-mul-bytes c =
+cut-bytes-requires : tie.Need-cut-bytes-requires
+cut-bytes-requires c κs =
     let g = c .before .before .before .before .before .args in
-    let p = given-places (taskOn (g .model .now)) (g .count) (g .cuts .now) (given-ok (g .model .now) (g .count) (g .cuts .now) (sym (c .before .judge-given .ensures) ∙ c .if1 .left) .1) in omega (arith, p .0)
-
-add-bytes : tie.Need-add-bytes
-add-bytes c =
-    let g = c .before .before .before .before .before .args in
-    let p = given-places (taskOn (g .model .now)) (g .count) (g .cuts .now) (given-ok (g .model .now) (g .count) (g .cuts .now) (sym (c .before .judge-given .ensures) ∙ c .if1 .left) .1) in omega (arith, p .0)
-
-add-bytes-2 : tie.Need-add-bytes-2
-add-bytes-2 c =
-    let g = c .before .before .before .before .before .args in
-    let p = given-places (taskOn (g .model .now)) (g .count) (g .cuts .now) (given-ok (g .model .now) (g .count) (g .cuts .now) (sym (c .before .judge-given .ensures) ∙ c .if1 .left) .1) in omega (arith, p .0)
+    given-places (taskOn (g .model .now)) (g .count) (g .cuts .now) (given-ok (g .model .now) (g .count) (g .cuts .now) (sym (c .before .judge-given .ensures) ∙ c .if1 .left) .1) .0
 
 returns-2 : tie.Need-returns-2
-unfolding cutBits bytesFor
-returns-2 c = let g = c .before .before .before .before .before .before .args in
-    room-refused (g .model .now) (g .count) (g .cuts .now) (g .sheet .now) (c .before .before .judge-given .ensures) (c .before .if1 .left) (omega arith)
+returns-2 c = let b = c .before .before in
+    let g = b .before .before .before .before .before .args in
+    room-refused (g .model .now) (g .count) (g .cuts .now) (g .sheet .now) (b .before .judge-given .ensures) (b .if1 .left) (omega (arith, c .before .cut-bytes .ensures))
 
 sub-if3 : tie.Need-sub-if3
 sub-if3 c = search needs
 
 returns-3 : tie.Need-returns-3
-unfolding cutBits bytesFor
-returns-3 c = let g = c .before .before .before .before .before .before .before .args in
-    room-refused (g .model .now) (g .count) (g .cuts .now) (g .sheet .now) (c .before .before .before .judge-given .ensures) (c .before .before .if1 .left) (omega arith)
+returns-3 c = let b = c .before .before .before in
+    let g = b .before .before .before .before .before .args in
+    room-refused (g .model .now) (g .count) (g .cuts .now) (g .sheet .now) (b .before .judge-given .ensures) (b .if1 .left) (omega (arith, c .before .before .cut-bytes .ensures))
 
 put-front-requires : tie.Need-put-front-requires
 put-front-requires c κs = search needs
@@ -58,8 +46,9 @@ part-put-cut-part-end c = search needs
 
 put-cut-part-requires : tie.Need-put-cut-part-requires
 put-cut-part-requires c κs =
-    let g = c .before .before .before .before .before .before .before .before .before .before .before .before .args in
-    given-places (taskOn (g .model .now)) (g .count) (g .cuts .now) (given-ok (g .model .now) (g .count) (g .cuts .now) (sym (c .before .before .before .before .before .before .before .before .judge-given .ensures) ∙ c .before .before .before .before .before .before .before .if1 .left) .1)
+    let b = c .before .before .before .before .before .before .before .before in
+    let g = b .before .before .before .before .before .args in
+    given-places (taskOn (g .model .now)) (g .count) (g .cuts .now) (given-ok (g .model .now) (g .count) (g .cuts .now) (sym (b .before .judge-given .ensures) ∙ b .if1 .left) .1)
 
 add-t10 : tie.Need-add-t10
 add-t10 c = search needs
@@ -68,10 +57,15 @@ same-length : tie.Need-same-length
 same-length c = search needs
 
 returns-4 : tie.Need-returns-4
-unfolding cutBits bytesFor
-returns-4 c = let g = c .before .before .before .before .before .before .before .before .before .before .before .before .before .before .before .args in
-    put-written (g .model .now) (g .count) (g .cuts .now) (g .sheet .now) (c .before .before .before .before .before .before .before .before .before .before .before .judge-given .ensures) (c .before .before .before .before .before .before .before .before .before .before .if1 .left) (λ i. omega (arith, c .before .before .before .before .before .before .before .before .before .before .before .before .slice-known .given i)) (omega arith)
-    (λ i l. omega (arith, c .before .before .before .before .before .before .before .before .before .before .before .before .before .shared-slice-known2 .given (i * 3 + 2))) refl (c .before .before .before .before .before .before .put-front .ensures) (c .before .before .put-cut-part .ensures (taskOn (g .model .now))) refl
+returns-4 c =
+    let front = c .before .before .before .before .before .before in
+    let bytes = front .before .before .before .before in
+    let b = bytes .before in
+    let known = b .before .before in
+    let g = known .before .before .before .args in
+    let q = bytes .cut-bytes .ensures in
+    put-written (g .model .now) (g .count) (g .cuts .now) (g .sheet .now) (b .before .judge-given .ensures) (b .if1 .left) (λ i. omega (arith, known .slice-known .given i)) (omega (arith, q))
+    (λ i l. omega (arith, known .before .shared-slice-known2 .given (i * 3 + 2))) (omega (arith, q)) (front .put-front .ensures) (c .before .before .put-cut-part .ensures (taskOn (g .model .now))) refl
 
 pub write-cuts-spec : {M : Type 1} → statement M
 write-cuts-spec =
@@ -79,9 +73,7 @@ write-cuts-spec =
     (tie.spec
     judge-given-requires
     returns
-    mul-bytes
-    add-bytes
-    add-bytes-2
+    cut-bytes-requires
     returns-2
     sub-if3
     returns-3

@@ -1,10 +1,11 @@
-use Prim.Native.Nat.{_+_, _*_}
+use Prim.Native.Nat.{ℕ, _+_, _*_}
 use native.Mathlib.Omega.{arith}
+use mathlib.Core.Path.{ap}
 use lib.ListN.{set, length-set}
 use Rattle.sheets.specs.LentTables.{columnValues}
 use Rattle.sheets.specs.ModelSheet.{columnOn}
 use Rattle.fields.specs.Places.{puts}
-use Rattle.fields.proofs.FieldLaws.{field-lt}
+use Rattle.fields.proofs.FieldLaws.{field-lt, read-at}
 use borrow.Author.Needs.{needs}
 use Rattle.reading.proofs.fill_column.Statement.{statement}
 use Rattle.reading.proofs.fill_column.Tie as tie
@@ -12,11 +13,8 @@ use Rattle.reading.proofs.fill_column.Reads as reads
 use Rattle.reading.proofs.fill_column.Lts as lts
 use Rattle.fields.proofs.field.field.Reads as field-reads
 
-mul-at : tie.Need-mul-at
-mul-at c = search needs
-
-add-at : tie.Need-add-at
-add-at c = search needs
+column-bits-requires : tie.Need-column-bits-requires
+column-bits-requires c κs = search needs
 
 mul-place : tie.Need-mul-place
 mul-place c = search needs
@@ -26,8 +24,7 @@ field-requires c κs = search needs
 
 cast-frame : tie.Need-cast-frame
 cast-frame c =
-    let a = c .before .before .before .args in
-    omega (arith, field-lt (a .s .now) (17 + a .i * 17) 6)
+    omega (arith, field-lt (c .before .before .before .before .args .s .now) (c .before .column-bits .result) 6)
 
 slice-write-frame : tie.Need-slice-write-frame
 slice-write-frame c = search needs
@@ -40,8 +37,7 @@ field-requires-2 c κs = search needs
 
 cast-frame-2 : tie.Need-cast-frame-2
 cast-frame-2 c =
-    let a = c .before .before .before .before .args in
-    omega (arith, field-lt (a .s .now) (17 + a .i * 17 + 6) 5)
+    omega (arith, field-lt (c .before .before .before .before .before .args .s .now) (c .before .before .column-bits .result + 6) 5)
 
 add-frame : tie.Need-add-frame
 add-frame c = search needs
@@ -61,8 +57,7 @@ field-requires-3 c κs = search needs
 
 cast-frame-3 : tie.Need-cast-frame-3
 cast-frame-3 c =
-    let a = c .before .before .before .before .before .args in
-    omega (arith, field-lt (a .s .now) (17 + a .i * 17 + 6 + 5) 6)
+    omega (arith, field-lt (c .before .before .before .before .before .before .args .s .now) (c .before .before .before .column-bits .result + 6 + 5) 6)
 
 add-frame-2 : tie.Need-add-frame-2
 add-frame-2 c = search needs
@@ -80,15 +75,20 @@ same-length c = search needs
 returns : tie.Need-returns
 unfolding puts columnValues columnOn
 returns c =
-    let a = c .before .before .before .before .before .args in
-    λ k. set (set (set (a .frame .now) (a .i * 3) (c .before .before .field .ensures k)) (a .i * 3 + 1) (c .before .field2 .ensures k)) (a .i * 3 + 1 + 1) (c .field3 .ensures k)
+    let p = c .before .before .before in
+    let a = p .before .before .before .args in
+    let s = a .s .now in
+    let q = p .column-bits .ensures .0 in
+    λ k.
+    set
+    (set (set (a .frame .now) (a .i * 3) (read-at s 6 q (c .before .before .field .ensures) k)) (a .i * 3 + 1) (read-at s 5 (ap (λ (x : ℕ). x + 6) q) (c .before .field2 .ensures) k))
+    (a .i * 3 + 1 + 1) (read-at s 6 (ap (λ (x : ℕ). x + 6 + 5) q) (c .field3 .ensures) k)
 
 pub fill-column-spec : {M : Type 1} → statement M
 fill-column-spec =
     tie.close
     (tie.spec
-    mul-at
-    add-at
+    column-bits-requires
     mul-place
     field-requires
     cast-frame

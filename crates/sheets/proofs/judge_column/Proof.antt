@@ -1,5 +1,9 @@
+use Prim.Native.Nat.{ℕ, _+_}
+use mathlib.Core.Path.{ap}
 use Rattle.sheets.specs.ModelSheet.{columnOn}
-use Rattle.sheets.proofs.SheetLaws.{size-bad, start-bad, goal-last}
+use Rattle.task.specs.Sizes.{limits}
+use Rattle.fields.proofs.FieldLaws.{read-at}
+use Rattle.sheets.proofs.SheetLaws.{size-bad, start-bad, goal-last, field-at, below-at}
 use borrow.Author.Needs.{needs}
 use Rattle.sheets.proofs.judge_column.Statement.{statement}
 use Rattle.sheets.proofs.judge_column.Tie as tie
@@ -9,11 +13,8 @@ use Rattle.fields.proofs.field.field.Reads as field-reads
 use Rattle.fields.proofs.field.judge_below.Reads as judge-below-reads
 use Rattle.fields.proofs.field.judge_field.Reads as judge-field-reads
 
-mul-at : tie.Need-mul-at
-mul-at c = search needs
-
-add-at : tie.Need-add-at
-add-at c = search needs
+column-bits-requires : tie.Need-column-bits-requires
+column-bits-requires c κs = search needs
 
 cast-judge-field : tie.Need-cast-judge-field
 cast-judge-field c = search needs
@@ -24,8 +25,9 @@ judge-field-requires c κs = search needs
 returns : tie.Need-returns
 unfolding columnOn
 returns c =
-    let a = c .before .before .before .args in
-    size-bad (columnOn (a .s .now)) (a .i) (c .before .judge-field .ensures) (c .if1 .taken)
+    let p = c .before .before in
+    let a = p .before .before .args in
+    size-bad (columnOn (a .s .now)) (a .i) (field-at (a .s .now) 6 1 (limits .positions) 4 (p .column-bits .ensures .0) (c .before .judge-field .ensures)) (c .if1 .taken)
 
 field-requires : tie.Need-field-requires
 field-requires c κs = search needs
@@ -39,8 +41,13 @@ judge-below-requires c κs = search needs
 returns-2 : tie.Need-returns-2
 unfolding columnOn
 returns-2 c =
-    let a = c .before .before .before .before .before .before .args in
-    start-bad (columnOn (a .s .now)) (a .i) (c .before .before .before .before .judge-field .ensures) (c .before .before .before .if1 .left) (c .before .before .field .ensures) (c .before .judge-below .ensures) (c .if2 .taken)
+    let f = c .before .before in
+    let p = f .before .before .before in
+    let a = p .before .before .args in
+    let s = a .s .now in
+    let q = p .column-bits .ensures .0 in
+    start-bad (columnOn s) (a .i) (field-at s 6 1 (limits .positions) 4 q (f .before .before .judge-field .ensures)) (f .before .if1 .left) (read-at s 6 q (f .field .ensures))
+    (below-at s 5 (f .field .result) 5 (ap (λ (x : ℕ). x + 6) q) (c .before .judge-below .ensures)) (c .if2 .taken)
 
 add-judge-field : tie.Need-add-judge-field
 add-judge-field c = search needs
@@ -54,15 +61,20 @@ judge-field-requires-2 c κs = search needs
 returns-3 : tie.Need-returns-3
 unfolding columnOn
 returns-3 c =
-    let a = c .before .before .before .before .before .before .before .args in
-    goal-last (columnOn (a .s .now)) (a .i) (c .before .before .before .before .before .judge-field .ensures) (c .before .before .before .before .if1 .left) (c .before .before .before .field .ensures) (c .before .before .judge-below .ensures) (c .before .if2 .left) (c .judge-field2 .ensures)
+    let f = c .before .before .before in
+    let p = f .before .before .before in
+    let a = p .before .before .args in
+    let s = a .s .now in
+    let q = p .column-bits .ensures .0 in
+    goal-last (columnOn s) (a .i) (field-at s 6 1 (limits .positions) 4 q (f .before .before .judge-field .ensures)) (f .before .if1 .left) (read-at s 6 q (f .field .ensures))
+    (below-at s 5 (f .field .result) 5 (ap (λ (x : ℕ). x + 6) q) (c .before .before .judge-below .ensures)) (c .before .if2 .left)
+    (field-at s 6 0 (f .field .result) 5 (ap (λ (x : ℕ). x + 6 + 5) q) (c .judge-field2 .ensures))
 
 pub judge-column-spec : {M : Type 1} → statement M
 judge-column-spec =
     tie.close
     (tie.spec
-    mul-at
-    add-at
+    column-bits-requires
     cast-judge-field
     judge-field-requires
     returns

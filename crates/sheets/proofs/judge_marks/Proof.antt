@@ -1,5 +1,6 @@
 use Prim.Native.Nat.{ℕ, _+_, _*_}
 use mathlib.Core.Path.{ap}
+use Rattle.fields.proofs.FieldLaws.{read-at}
 use Rattle.sheets.specs.ModelSheet.{columnOn, marksOn}
 use Rattle.sheets.proofs.SheetLaws.{need-bad, effect-last, field-at}
 use borrow.Author.Needs.{needs}
@@ -11,11 +12,8 @@ use Rattle.fields.proofs.field.field.Reads as field-reads
 use Rattle.fields.proofs.field.judge_field.Reads as judge-field-reads
 use Rattle.sheets.proofs.model_bits.Reads as model-bits-reads
 
-mul-field : tie.Need-mul-field
-mul-field c = search needs
-
-add-field : tie.Need-add-field
-add-field c = search needs
+column-bits-requires : tie.Need-column-bits-requires
+column-bits-requires c κs = search needs
 
 field-requires : tie.Need-field-requires
 field-requires c κs = search needs
@@ -38,10 +36,11 @@ judge-field-requires c κs = search needs
 returns : tie.Need-returns
 unfolding columnOn marksOn
 returns c =
-    let a = c .before .before .before .before .before .args in
-    let size = c .before .before .before .field .result in
+    let f = c .before .before .before in
+    let a = f .before .before .before .args in
+    let size = f .field .result in
     let at : ℕ → ℕ = λ x. x + 16 + a .i * 12 in
-    need-bad (columnOn (a .s .now)) (a .i) (marksOn (a .s .now) (a .n)) (a .j) (c .before .before .before .field .ensures) (field-at (a .s .now) 6 0 size 5 (ap at (c .before .before .model-bits .ensures .0)) (c .before .judge-field .ensures)) (c .if1 .taken)
+    need-bad (columnOn (a .s .now)) (a .i) (marksOn (a .s .now) (a .n)) (a .j) (read-at (a .s .now) 6 (f .before .column-bits .ensures .0) (f .field .ensures)) (field-at (a .s .now) 6 0 size 5 (ap at (c .before .before .model-bits .ensures .0)) (c .before .judge-field .ensures)) (c .if1 .taken)
 
 add-judge-field : tie.Need-add-judge-field
 add-judge-field c = search needs
@@ -52,18 +51,18 @@ judge-field-requires-2 c κs = search needs
 returns-2 : tie.Need-returns-2
 unfolding columnOn marksOn
 returns-2 c =
-    let a = c .before .before .before .before .before .before .args in
-    let size = c .before .before .before .before .field .result in
+    let f = c .before .before .before .before in
+    let a = f .before .before .before .args in
+    let size = f .field .result in
     let at : ℕ → ℕ = λ x. x + 16 + a .i * 12 in
     let q = c .before .before .before .model-bits .ensures .0 in
-    effect-last (columnOn (a .s .now)) (a .i) (marksOn (a .s .now) (a .n)) (a .j) (c .before .before .before .before .field .ensures) (field-at (a .s .now) 6 0 size 5 (ap at q) (c .before .before .judge-field .ensures)) (c .before .if1 .left) (field-at (a .s .now) 6 0 size 5 (ap (λ (x : ℕ). at x + 6) q) (c .judge-field2 .ensures))
+    effect-last (columnOn (a .s .now)) (a .i) (marksOn (a .s .now) (a .n)) (a .j) (read-at (a .s .now) 6 (f .before .column-bits .ensures .0) (f .field .ensures)) (field-at (a .s .now) 6 0 size 5 (ap at q) (c .before .before .judge-field .ensures)) (c .before .if1 .left) (field-at (a .s .now) 6 0 size 5 (ap (λ (x : ℕ). at x + 6) q) (c .judge-field2 .ensures))
 
 pub judge-marks-spec : {M : Type 1} → statement M
 judge-marks-spec =
     tie.close
     (tie.spec
-    mul-field
-    add-field
+    column-bits-requires
     field-requires
     model-bits-requires
     add-at

@@ -1,7 +1,7 @@
-use Prim.Native.Nat.{_+_, _*_, _-_, _≤_}
+use Prim.Native.Nat.{ℕ, _+_, _-_, _≤_}
 use native.Mathlib.Omega.{arith}
 use mathlib.Core.Path.{_≡_, ap}
-use Rattle.fields.proofs.FieldLaws.{field-lt}
+use Rattle.fields.proofs.FieldLaws.{field-lt, read-at}
 use Rattle.task.specs.Tables.{mark}
 use Rattle.task.specs.Loops.{tab, over}
 use Rattle.sheets.specs.Holding.{unused}
@@ -27,8 +27,8 @@ unfolding unused
 loop-holds c =
     (omega arith, begun _ 16 (mark 0))
 
-mul-field : tie.Need-mul-field Inv-loop μ-loop
-mul-field c = search needs
+column-bits-requires : tie.Need-column-bits-requires Inv-loop μ-loop
+column-bits-requires c κs = search needs
 
 add-field : tie.Need-add-field Inv-loop μ-loop
 add-field c = search needs
@@ -36,15 +36,12 @@ add-field c = search needs
 add-field-2 : tie.Need-add-field-2 Inv-loop μ-loop
 add-field-2 c = search needs
 
-add-field-3 : tie.Need-add-field-3 Inv-loop μ-loop
-add-field-3 c = search needs
-
 field-requires : tie.Need-field-requires Inv-loop μ-loop
 field-requires c κs = search needs
 
-cast-t12 : tie.Need-cast-t12 Inv-loop μ-loop
-cast-t12 c =
-    omega (arith, field-lt (c .before .before .before .before .args .s .now) (17 + c .before .before .loop .i * 17 + 6 + 5) 6)
+cast-t11 : tie.Need-cast-t11 Inv-loop μ-loop
+cast-t11 c =
+    omega (arith, field-lt (c .before .before .before .before .before .args .s .now) (c .before .column-bits .result + 6 + 5) 6)
 
 array-set-from-t : tie.Need-array-set-from-t Inv-loop μ-loop
 array-set-from-t c = search needs
@@ -58,8 +55,9 @@ loop-less c = search needs
 loop-again : tie.Need-loop-again Inv-loop μ-loop
 unfolding goalOn
 loop-again c =
-    let l = c .before .before .loop in
-    (omega arith, grown (goalOn (c .before .before .before .before .args .s .now)) 16 (mark 0) (l .i) (omega arith) (l .inv .1) (ap mark (c .field .ensures)))
+    let l = c .before .before .before .loop in
+    let s = c .before .before .before .before .before .args .s .now in
+    (omega arith, grown (goalOn s) 16 (mark 0) (l .i) (omega arith) (l .inv .1) (ap mark (read-at s 6 (ap (λ (x : ℕ). x + 6 + 5) (c .before .column-bits .ensures .0)) (c .field .ensures))))
 
 returns : tie.Need-returns Inv-loop μ-loop
 returns c =
@@ -73,12 +71,11 @@ goals-spec =
     Inv-loop
     μ-loop
     loop-holds
-    mul-field
+    column-bits-requires
     add-field
     add-field-2
-    add-field-3
     field-requires
-    cast-t12
+    cast-t11
     array-set-from-t
     add-i
     loop-less

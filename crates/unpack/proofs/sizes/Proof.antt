@@ -1,7 +1,7 @@
-use Prim.Native.Nat.{_+_, _*_, _-_, _≤_}
+use Prim.Native.Nat.{_-_, _≤_}
 use native.Mathlib.Omega.{arith}
 use mathlib.Core.Path.{_≡_}
-use Rattle.fields.proofs.FieldLaws.{field-lt}
+use Rattle.fields.proofs.FieldLaws.{field-lt, read-at}
 use Rattle.task.specs.Loops.{tab, over}
 use Rattle.sheets.specs.Holding.{unused}
 use Rattle.unpack.specs.Unpacking.{sizeOn}
@@ -26,18 +26,15 @@ unfolding unused
 loop-holds c =
     (omega arith, begun _ 16 0)
 
-mul-field : tie.Need-mul-field Inv-loop μ-loop
-mul-field c = search needs
-
-add-field : tie.Need-add-field Inv-loop μ-loop
-add-field c = search needs
+column-bits-requires : tie.Need-column-bits-requires Inv-loop μ-loop
+column-bits-requires c κs = search needs
 
 field-requires : tie.Need-field-requires Inv-loop μ-loop
 field-requires c κs = search needs
 
 cast-t : tie.Need-cast-t Inv-loop μ-loop
 cast-t c =
-    omega (arith, field-lt (c .before .before .before .before .args .s .now) (17 + c .before .before .loop .i * 17) 6)
+    omega (arith, field-lt (c .before .before .before .before .before .args .s .now) (c .before .column-bits .result) 6)
 
 array-write-t : tie.Need-array-write-t Inv-loop μ-loop
 array-write-t c = search needs
@@ -51,8 +48,9 @@ loop-less c = search needs
 loop-again : tie.Need-loop-again Inv-loop μ-loop
 unfolding sizeOn
 loop-again c =
-    let l = c .before .before .loop in
-    (omega arith, grown (sizeOn (c .before .before .before .before .args .s .now)) 16 0 (l .i) (omega arith) (l .inv .1) (c .field .ensures))
+    let l = c .before .before .before .loop in
+    let s = c .before .before .before .before .before .args .s .now in
+    (omega arith, grown (sizeOn s) 16 0 (l .i) (omega arith) (l .inv .1) (read-at s 6 (c .before .column-bits .ensures .0) (c .field .ensures)))
 
 returns : tie.Need-returns Inv-loop μ-loop
 returns c =
@@ -66,8 +64,7 @@ sizes-spec =
     Inv-loop
     μ-loop
     loop-holds
-    mul-field
-    add-field
+    column-bits-requires
     field-requires
     cast-t
     array-write-t

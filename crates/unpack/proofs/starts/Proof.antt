@@ -1,7 +1,7 @@
-use Prim.Native.Nat.{_+_, _*_, _-_, _≤_}
+use Prim.Native.Nat.{ℕ, _+_, _-_, _≤_}
 use native.Mathlib.Omega.{arith}
 use mathlib.Core.Path.{_≡_, ap}
-use Rattle.fields.proofs.FieldLaws.{field-lt}
+use Rattle.fields.proofs.FieldLaws.{field-lt, read-at}
 use Rattle.task.specs.Task.{position}
 use Rattle.task.specs.Loops.{tab, over}
 use Rattle.sheets.specs.Holding.{unused}
@@ -27,21 +27,18 @@ unfolding unused
 loop-holds c =
     (omega arith, begun _ 16 (position 0))
 
-mul-field : tie.Need-mul-field Inv-loop μ-loop
-mul-field c = search needs
+column-bits-requires : tie.Need-column-bits-requires Inv-loop μ-loop
+column-bits-requires c κs = search needs
 
 add-field : tie.Need-add-field Inv-loop μ-loop
 add-field c = search needs
 
-add-field-2 : tie.Need-add-field-2 Inv-loop μ-loop
-add-field-2 c = search needs
-
 field-requires : tie.Need-field-requires Inv-loop μ-loop
 field-requires c κs = search needs
 
-cast-t11 : tie.Need-cast-t11 Inv-loop μ-loop
-cast-t11 c =
-    omega (arith, field-lt (c .before .before .before .before .args .s .now) (17 + c .before .before .loop .i * 17 + 6) 5)
+cast-t10 : tie.Need-cast-t10 Inv-loop μ-loop
+cast-t10 c =
+    omega (arith, field-lt (c .before .before .before .before .before .args .s .now) (c .before .column-bits .result + 6) 5)
 
 array-set-from-t : tie.Need-array-set-from-t Inv-loop μ-loop
 array-set-from-t c = search needs
@@ -55,8 +52,9 @@ loop-less c = search needs
 loop-again : tie.Need-loop-again Inv-loop μ-loop
 unfolding startOn
 loop-again c =
-    let l = c .before .before .loop in
-    (omega arith, grown (startOn (c .before .before .before .before .args .s .now)) 16 (position 0) (l .i) (omega arith) (l .inv .1) (ap position (c .field .ensures)))
+    let l = c .before .before .before .loop in
+    let s = c .before .before .before .before .before .args .s .now in
+    (omega arith, grown (startOn s) 16 (position 0) (l .i) (omega arith) (l .inv .1) (ap position (read-at s 5 (ap (λ (x : ℕ). x + 6) (c .before .column-bits .ensures .0)) (c .field .ensures))))
 
 returns : tie.Need-returns Inv-loop μ-loop
 returns c =
@@ -70,11 +68,10 @@ starts-spec =
     Inv-loop
     μ-loop
     loop-holds
-    mul-field
+    column-bits-requires
     add-field
-    add-field-2
     field-requires
-    cast-t11
+    cast-t10
     array-set-from-t
     add-i
     loop-less

@@ -1,4 +1,5 @@
-use mathlib.Core.Path.{refl}
+use Prim.Native.Nat.{ℕ, _+_}
+use mathlib.Core.Path.{refl, ap}
 use Rattle.sheets.specs.LentTables.{columnIn}
 use Rattle.sheets.specs.ModelSheet.{columnPart}
 use Rattle.fields.specs.Packing.{packed}
@@ -11,11 +12,8 @@ use Rattle.writing.proofs.put.put_column.Lts as lts
 use Rattle.fields.proofs.place.place.Reads as place-reads
 use Rattle.fields.proofs.put.put_field.Reads as put-field-reads
 
-mul-at : tie.Need-mul-at
-mul-at c = search needs
-
-add-at : tie.Need-add-at
-add-at c = search needs
+column-bits-requires : tie.Need-column-bits-requires
+column-bits-requires c κs = search needs
 
 mul-place : tie.Need-mul-place
 mul-place c = search needs
@@ -65,14 +63,19 @@ same-length c = search needs
 returns : tie.Need-returns
 unfolding packed columnPart columnIn
 returns c =
-    put-next 6 (c .before .before .put-field3 .ensures) refl (c .before .before .before .place3 .ensures) (put-next 5 (c .before .before .before .before .before .before .before .put-field2 .ensures) refl (c .before .before .before .before .before .before .before .before .place2 .ensures) (put-next 6 (c .before .before .before .before .before .before .before .before .before .before .before .before .put-field .ensures) refl (c .before .before .before .before .before .before .before .before .before .before .before .before .before .place .ensures) refl))
+    let third = c .before .before in
+    let second = third .before .before .before .before .before in
+    let first = second .before .before .before .before .before in
+    let q = first .before .before .before .column-bits .ensures .0 in
+    put-next 6 (third .put-field3 .ensures) (ap (λ (x : ℕ). x + 6 + 5) q) (third .before .place3 .ensures)
+    (put-next 5 (second .put-field2 .ensures) (ap (λ (x : ℕ). x + 6) q) (second .before .place2 .ensures)
+    (put-next 6 (first .put-field .ensures) q (first .before .place .ensures) refl))
 
 pub put-column-spec : {M : Type 1} → statement M
 put-column-spec =
     tie.close
     (tie.spec
-    mul-at
-    add-at
+    column-bits-requires
     mul-place
     place-requires
     put-field-requires

@@ -6,7 +6,7 @@ use native.Mathlib.Omega.{arith}
 use mathlib.Core.Path.{_≡_, ap, _∙_}
 use Rattle.fields.specs.Judging.{inTable, each}
 use Rattle.sheets.specs.LentTables.{columnIn, marksIn}
-use Rattle.sheets.specs.ModelSheet.{modelBits, stepPart}
+use Rattle.sheets.specs.ModelSheet.{columnBits, modelBits, stepPart}
 use Rattle.fields.specs.Packing.{packed}
 use borrow.Author.Needs.{needs}
 use Rattle.writing.proofs.put.put_steps.Statement.{statement}
@@ -17,7 +17,7 @@ use Rattle.writing.proofs.put.put_step.Reads as put-step-reads
 
 abbrev Inv-loop : tie.InvT-loop
 Inv-loop out₀ frame costs marks n m j₀ out j =
-    (j ≤ m) × (out ≡ packed (17 + n * 17) (each j (stepPart (columnIn frame) (inTable costs) (marksIn marks n) n)) out₀)
+    (j ≤ m) × (out ≡ packed (columnBits n) (each j (stepPart (columnIn frame) (inTable costs) (marksIn marks n) n)) out₀)
 
 abbrev μ-loop : tie.MeasureT-loop
 μ-loop out₀ frame costs marks n m j₀ out j =
@@ -41,7 +41,7 @@ unfolding modelBits
 loop-again c =
     let a = c .before .before .before .before .before .before .before .before .before .before .args in
     let l = c .before .before .before .before .before .loop in
-    (omega arith, c .before .before .put-step .ensures ∙ packed-more (stepPart (columnIn (a .frame .now)) (inTable (a .costs .now)) (marksIn (a .marks .now) (a .n)) (a .n)) (16 + a .n * 12) (step-bits (columnIn (a .frame .now)) (inTable (a .costs .now)) (marksIn (a .marks .now) (a .n)) (a .n)) (17 + a .n * 17) (l .j) (a .out .now) (l .inv .1))
+    (omega arith, c .before .before .put-step .ensures ∙ packed-more (stepPart (columnIn (a .frame .now)) (inTable (a .costs .now)) (marksIn (a .marks .now) (a .n)) (a .n)) (16 + a .n * 12) (step-bits (columnIn (a .frame .now)) (inTable (a .costs .now)) (marksIn (a .marks .now) (a .n)) (a .n)) (columnBits (a .n)) (l .j) (a .out .now) (l .inv .1))
 
 same-length : tie.Need-same-length Inv-loop μ-loop
 same-length c =

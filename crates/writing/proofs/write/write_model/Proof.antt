@@ -1,14 +1,12 @@
-use mathlib.Core.Path.{sym, ap, _∙_}
+use mathlib.Core.Path.{sym, _∙_}
 use native.Mathlib.Omega.{arith}
 use Rattle.sheets.specs.LentTables.{ofTables}
-use Rattle.fields.specs.Packing.{bytesFor}
 use Rattle.writing.proofs.WritingLaws.{fields-refused, room-refused, put-written, given-fine}
 use borrow.Author.Needs.{needs}
 use Rattle.writing.proofs.write.write_model.Statement.{statement}
 use Rattle.writing.proofs.write.write_model.Tie as tie
 use Rattle.writing.proofs.write.write_model.Reads as reads
 use Rattle.writing.proofs.write.write_model.Lts as lts
-use Rattle.sheets.proofs.model_bits.Reads as model-bits-reads
 use Rattle.writing.proofs.given.judge_given.Reads as judge-given-reads
 use Rattle.writing.proofs.put.put_sheet.Reads as put-sheet-reads
 
@@ -20,19 +18,16 @@ returns c =
     let a = c .before .before .before .before .before .before .args in
     fields-refused (ofTables (a .columns) (a .steps) (a .frame .now) (a .costs .now) (a .marks .now)) (a .sheet .now) (c .before .judge-given .ensures) (c .if1 .taken)
 
-model-bits-requires : tie.Need-model-bits-requires
-model-bits-requires c κs =
+model-bytes-requires : tie.Need-model-bytes-requires
+model-bytes-requires c κs =
     let a = c .before .before .before .before .before .before .args in
     given-fine (a .columns) (a .steps) (a .frame .now) (a .costs .now) (a .marks .now) (sym (c .before .judge-given .ensures) ∙ c .if1 .left)
 
-add-bytes : tie.Need-add-bytes
-add-bytes c = search needs
-
 returns-2 : tie.Need-returns-2
-unfolding ofTables bytesFor
+unfolding ofTables
 returns-2 c =
     let a = c .before .before .before .before .before .before .before .before .args in
-    room-refused (ofTables (a .columns) (a .steps) (a .frame .now) (a .costs .now) (a .marks .now)) (a .sheet .now) (c .before .before .before .judge-given .ensures) (c .before .before .if1 .left) (omega (arith, c .before .model-bits .ensures .0))
+    room-refused (ofTables (a .columns) (a .steps) (a .frame .now) (a .costs .now) (a .marks .now)) (a .sheet .now) (c .before .before .before .judge-given .ensures) (c .before .before .if1 .left) (omega (arith, c .before .model-bytes .ensures))
 
 put-sheet-requires : tie.Need-put-sheet-requires
 put-sheet-requires c κs =
@@ -43,10 +38,10 @@ same-length : tie.Need-same-length
 same-length c = search needs
 
 returns-3 : tie.Need-returns-3
-unfolding ofTables bytesFor
+unfolding ofTables
 returns-3 c =
     let a = c .before .before .before .before .before .before .before .before .before .before .before .before .args in
-    put-written (ofTables (a .columns) (a .steps) (a .frame .now) (a .costs .now) (a .marks .now)) (a .sheet .now) (c .before .before .before .before .before .before .before .judge-given .ensures) (c .before .before .before .before .before .before .if1 .left) (λ j l. omega (arith, c .before .before .before .before .before .before .before .before .before .before .shared-slice-known2 .given j)) (λ i. omega (arith, c .before .before .before .before .before .before .before .before .slice-known .given i)) (ap bytesFor (c .before .before .before .before .before .model-bits .ensures .0)) (omega (arith, c .before .before .before .before .before .model-bits .ensures .0, c .before .before .before .before .if2 .left)) (c .before .before .put-sheet .ensures)
+    put-written (ofTables (a .columns) (a .steps) (a .frame .now) (a .costs .now) (a .marks .now)) (a .sheet .now) (c .before .before .before .before .before .before .before .judge-given .ensures) (c .before .before .before .before .before .before .if1 .left) (λ j l. omega (arith, c .before .before .before .before .before .before .before .before .before .before .shared-slice-known2 .given j)) (λ i. omega (arith, c .before .before .before .before .before .before .before .before .slice-known .given i)) (c .before .before .before .before .before .model-bytes .ensures) (omega (arith, c .before .before .before .before .before .model-bytes .ensures, c .before .before .before .before .if2 .left)) (c .before .before .put-sheet .ensures)
 
 pub write-model-spec : {M : Type 1} → statement M
 write-model-spec =
@@ -54,8 +49,7 @@ write-model-spec =
     (tie.spec
     judge-given-requires
     returns
-    model-bits-requires
-    add-bytes
+    model-bytes-requires
     returns-2
     put-sheet-requires
     same-length
