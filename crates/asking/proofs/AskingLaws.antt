@@ -22,7 +22,7 @@ use Rattle.cut_sheets.specs.CutSheet.{tailOf, cutSheetChecks, cutsOf}
 use Rattle.cut_sheets.specs.Judged.{Made}
 use Rattle.cut_reading.specs.Rebuilding.{SheetJudged}
 use Rattle.cut_reading.proofs.RebuildLaws.{sheets-ok, start-within}
-use Rattle.sheet_laws.proofs.Given.{read-code, given-task, given-accepted, given-columns}
+use Rattle.unpack.proofs.GivenLaws.{read-code, given-task, given-accepted, given-columns}
 use Rattle.asking.specs.declared.Asked.the-variants.{Estimates, Refused}
 use Rattle.asking.specs.Question.{statesIn, badStates, estimatesOf, questionChecks, outcome, asking, Asks}
 

@@ -18,7 +18,7 @@ use Rattle.task.specs.Tables.{taskOf}
 use Rattle.task.specs.Sizes.{limits, blockPlaces}
 use Rattle.task.proofs.TaskLaws.{per-length}
 use Rattle.task.proofs.TableLaws.{columns-of, size-of}
-use Rattle.task.proofs.LoopLaws.{over-length, over-more, tab-at, tab-length, tab-ext, below-suc}
+use Rattle.task.proofs.LoopLaws.{over-length, tab-at, tab-length, tab-ext, below-suc}
 use Rattle.blocks.specs.declared.Cut.{Cut}
 use Rattle.blocks.specs.Blocks.{PositionSet, Sets, Blocks, every, common, without, setAt, blockAt, withSet, cutBlock, whole, cutOk}
 use Rattle.blocks.specs.Flat.{past, rowOf, setsIn, blocksIn, laid, cutIn}
@@ -32,10 +32,6 @@ use Rattle.blocks.proofs.PartLaws.{same-or-not, oldBlock, oldSet, restB
 pub over-all : {A : Type 0} (n : ℕ) (f : ℕ → A) (l : List A) → length l ≡ n → over (tab n f) l ≡ tab n f
 unfolding over
 over-all n f l h = rw (tab-length n f, drop-of-length-le l {i = n} (omega arith), append-nil)
-
--- one place more
-pub over-set : {A : Type 0} (f : ℕ → A) (i : ℕ) (v : A) (l l₀ : List A) → l ≡ over (tab i f) l₀ → i < length l₀ → v ≡ f i → set l i v ≡ over (tab (i + 1) f) l₀
-over-set f i v l l₀ e h k = rw (e, k) (sym (over-more i f l₀ h))
 
 pub tab-set : {A : Type 0} (n : ℕ) (f g : ℕ → A) (a : ℕ) (v d : A) → g a ≡ v → ((i : ℕ) → i < n → i ≢ a → g i ≡ f i) → tab n g ≡ set (tab n f) a v
 tab-set n f g a v d e h =

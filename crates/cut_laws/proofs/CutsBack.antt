@@ -12,8 +12,8 @@ use Rattle.fields.proofs.JudgingLaws.{each-ext, refusal-append, go, passes, no-
 use Rattle.fields.proofs.PutLaws.{Bytes}
 use Rattle.sheets.specs.ModelSheet.{judgeSheet}
 use Rattle.sheets.specs.Holding.{taskOn}
-use Rattle.sheet_laws.proofs.Held.{accepted-task}
-use Rattle.sheet_laws.proofs.TablesBack.{slices, three}
+use Rattle.sheets.proofs.HeldTaskLaws.{accepted-task}
+use Rattle.fields.proofs.PlaceLaws.{slices, three}
 use Rattle.cut_sheets.specs.CutPart.{CutFields, cutEntries, cutBytes, countOf, cutOn}
 use Rattle.cut_sheets.specs.CutSheet.{tailOf, cutSheetChecks, cutValues, cutList, rebuildChecks, cutLent, ofCuts, cutSheetOf, givenChecks, writeCutsChecks}
 use Rattle.cut_sheets.proofs.CutPartLaws.{PartFine, part-fine}

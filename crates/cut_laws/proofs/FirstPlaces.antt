@@ -13,7 +13,7 @@ use Rattle.fields.specs.Packing.{sheetOf}
 use Rattle.sheets.specs.ModelSheet.{sheetChecks}
 use Rattle.sheets.specs.Holding.{taskOn}
 use Rattle.sheets.specs.LentTables.{tooFew}
-use Rattle.sheet_laws.proofs.FirstPlaces.{same-place}
+use Rattle.fields.proofs.PlaceLaws.{same-place}
 use Rattle.cut_sheets.specs.CutPart.{cutEntries, cutBytes}
 use Rattle.cut_sheets.specs.CutSheet.{cutLent, ofCuts, cutSheetOf, givenChecks, writeCutsChecks}
 use Rattle.cut_sheets.proofs.CutPartLaws.{SameCuts, same-fields}

@@ -5,8 +5,7 @@ use mathlib.Core.Path.{_≡_, refl, sym, ap, ap₂, _∙_, subst}
 use mathlib.Core.Bool.{Bool, true, false, _&&_}
 use mathlib.Core.List.{List, [], _∷_}
 use lib.Dec.{eqb, leb, ltb}
-use lib.ListN.{length, getD, take, drop, length-drop}
-use lib.Seq.{take-all}
+use lib.ListN.{length, getD, take, drop}
 use borrow.Author.Tests.{le-leb, lt-leb, lt-ltb, le-ltb, eq-eqb, ne-eqb}
 use Rattle.task.specs.Loops.{all, tab, over}
 use Rattle.task.specs.Sizes.{limits}
@@ -16,7 +15,7 @@ use Rattle.task.proofs.LoopLaws.{and-both, all-more, all-fails, tab-ext}
 use Rattle.fields.specs.Judging.{refusal, each}
 use Rattle.fields.specs.Places.{puts}
 use Rattle.fields.proofs.JudgingLaws.{stop, go, applies, passes, no-checks, refusal-append, refused-is}
-use Rattle.fields.proofs.PlaceLaws.{each-length, puts-over}
+use Rattle.fields.proofs.PlaceLaws.{each-length, puts-over, rest-all}
 use Rattle.sheets.specs.LentTables.{tooFew}
 use Rattle.blocks.specs.Blocks.{PositionSet, every, whole, cutAll, blocksOf}
 use Rattle.blocks.specs.Flat.{blocksIn}
@@ -26,8 +25,8 @@ use Rattle.sheets.specs.ModelSheet.{columnsOf, columnOn, sheetWith, ofSheet, ju
 use Rattle.sheets.specs.Holding.{columnSaid, taskOn}
 use Rattle.unpack.specs.declared.Read.{Read}
 use Rattle.unpack.specs.Unpacking.{sizeOn, unpacked}
-use Rattle.sheet_laws.proofs.Held.{accepted-task, columns-said, column-said}
-use Rattle.sheet_laws.proofs.Given.{given-task, given-accepted}
+use Rattle.sheets.proofs.HeldTaskLaws.{accepted-task, columns-said, column-said}
+use Rattle.unpack.proofs.GivenLaws.{given-task, given-accepted}
 use Rattle.cut_sheets.specs.CutPart.{CutFields, cutsNamed, cutOn, countOf, judgeCuts}
 use Rattle.cut_sheets.specs.CutSheet.{tailOf, atFront, cutSheetChecks, cutValues, cutList, rebuildChecks}
 use Rattle.cut_sheets.specs.Judged.{Made, PartJudged}
@@ -63,10 +62,6 @@ module _ (a s : List ℕ) where
   pub front-same : length a ≤ length s → sameTo a s (length a) ≡ true → true ≡ atFront a s
   unfolding atFront sameTo
   front-same h e = sym (and-both (le-leb (length a) (length s) h) e)
-
--- a tail that is taken whole, as a slice from its middle on has it
-pub rest-all : (s : List ℕ) (n : ℕ) → take (length s - n) (drop n s) ≡ drop n s
-rest-all s n = take-all (length s - n) (drop n s) (simp length-drop (omega arith))
 
 -- ---- block 0, from the sizes on a sheet
 unfoldable pub wholeOn : List ℕ → ℕ → PositionSet

@@ -13,12 +13,13 @@ use Rattle.fields.specs.Bits.{fieldAt}
 use Rattle.fields.specs.Judging.{Entry, onSheet, entry, free, outside, judged, each}
 use Rattle.fields.specs.Packing.{bitsIn, bytesFor}
 use Rattle.fields.proofs.JudgingLaws.{both, first-fine, judged-at, inside-means, sheet-here, each-ext}
+use Rattle.fields.proofs.PlaceLaws.{same-field}
 use Rattle.fields.proofs.PackingLaws.{Holds, bits-append, bits-each, holds-append, holds-split, holds-each, holds-at}
 use Rattle.blocks.specs.declared.Cut.{Cut}
 use Rattle.blocks.specs.Blocks.{cutOk, cutsOk, accepted, blocksOf}
 use Rattle.blocks.proofs.CutLaws.{accepted-more}
 use Rattle.sheets.specs.ModelSheet.{fillBits, fillPart}
-use Rattle.sheets.proofs.RoundLaws.{fill-fine, same-field}
+use Rattle.sheets.proofs.RoundLaws.{fill-fine}
 use Rattle.cut_sheets.specs.CutPart.{CutFields, CutSource, cutNamed, cutsNamed, cutHeader, cutPart, cutBits, cutFields, cutOn, cutPartWith, cutBytes}
 
 -- ---- bits

@@ -6,9 +6,9 @@ use mathlib.Core.Path.{_≡_, refl, sym, ap, ap₂, _∙_}
 use mathlib.Core.Bool.{true, false, not}
 use mathlib.Core.List.{List, _++_}
 use lib.ListN.{length, getD, take, drop, length-append, take-append-drop, List·getD-append}
-use lib.Dec.{eqb, leb, ltb}
+use lib.Dec.{eqb, leb}
 use lib.Seq.{ext-getD, getD-take, getD-drop, length-take-le, drop-at}
-use borrow.Author.Tests.{leb-true, le-leb, lt-ltb, eqb-true, eq-eqb, not-false}
+use borrow.Author.Tests.{leb-true, le-leb, eqb-true, eq-eqb, not-false}
 use Rattle.task.specs.Task.{Task, Accepted}
 use Rattle.task.proofs.LoopLaws.{and-left, and-right, and-both, all-at, all-intro}
 use Rattle.fields.specs.Bits.{fieldAt}
@@ -16,12 +16,12 @@ use Rattle.fields.specs.Judging.{Field, judged, each, refusal, onSheet, inTable
 use Rattle.fields.specs.Packing.{sheetOf}
 use Rattle.fields.proofs.JudgingLaws.{go, stop, neither, last-both, last-stopped, last-went, applies, passed, passes, refusal-append}
 use Rattle.fields.proofs.PartLaws.{field-take}
-use Rattle.fields.proofs.PlaceLaws.{each-length, each-at}
+use Rattle.fields.proofs.PlaceLaws.{each-length, each-at, same-field, filled-place}
 use Rattle.fields.proofs.PutLaws.{Bytes}
 use Rattle.sheets.specs.ModelSheet.{modelBytes, modelEnd, ofSheet, entries, sheetChecks, judgeSheet, judgePart}
 use Rattle.sheets.proofs.SheetLaws.{sheet-fine}
 use Rattle.sheets.proofs.FrontLaws.{front-counts, front-accepted}
-use Rattle.sheets.proofs.RoundLaws.{exact-length, same-field}
+use Rattle.sheets.proofs.RoundLaws.{exact-length}
 use Rattle.sheets.specs.Holding.{taskOn}
 use Rattle.cut_sheets.specs.CutPart.{CutFields, cutEntries, countOf, cutOn, cutBytes, ofCutPart, cutPartWith, cutChecks, judgeCuts}
 use Rattle.cut_sheets.specs.CutSheet.{tailOf, atFront, cutSheetChecks, cutValues, cutList, cutLent, ofCuts, cutSheetOf, givenChecks}
@@ -193,12 +193,9 @@ module _ (model s : List ℕ) (ok : refusal (cutSheetChecks model s) ≡ 0) wher
     abbrev L : List ℕ
     L = cutList s ++ rest
 
-    there : (k : ℕ) → k < K * 3 → ltb k (length L) ≡ true
-    there k h = lt-ltb k (length L) (omega (arith, length-append (cutList s) rest, list-length))
-
     -- a place of the list is the field that it was filled from
-    same-place : (k : ℕ) (f : Field) → k < K * 3 → f .here ≡ true → getD (cutList s) k 0 ≡ f .value → inTable L k ≡ f
-    same-place k f h here e = same-field (inTable L k) f (there k h) here (List·getD-append (cutList s) rest 0 k (omega (arith, list-length)) ∙ e)
+    listed : (k : ℕ) (f : Field) → k < K * 3 → f .here ≡ true → getD (cutList s) k 0 ≡ f .value → inTable L k ≡ f
+    listed k f h here e = filled-place (cutList s) rest k f (omega (arith, list-length)) here e
 
     same : SameCuts (ofCuts K L) (ofCutPart T) K
     unfolding ofCuts cutLent cutList ofCutPart cutPartWith
@@ -207,9 +204,9 @@ module _ (model s : List ℕ) (ok : refusal (cutSheetChecks model s) ≡ 0) wher
           form = same-field (given 2) (onSheet T 0 4) refl (fine .form .0) (sym (fine .form .1));
           count = same-field (given K) (onSheet T 4 8) refl (fine .count .0) refl;
           cut = λ i h k. record {
-            block = same-place (i * 3) (cutOn T i .block) (omega arith) (fine .cut i h .block) (block-place (cutOn T) K i h) k;
-            column = same-place (i * 3 + 1) (cutOn T i .column) (omega arith) (fine .cut i h .column) (column-place (cutOn T) K i h) k;
-            wanted = same-place (i * 3 + 2) (cutOn T i .wanted) (omega arith) (fine .cut i h .wanted) (wanted-place (cutOn T) K i h) k;
+            block = listed (i * 3) (cutOn T i .block) (omega arith) (fine .cut i h .block) (block-place (cutOn T) K i h) k;
+            column = listed (i * 3 + 1) (cutOn T i .column) (omega arith) (fine .cut i h .column) (column-place (cutOn T) K i h) k;
+            wanted = listed (i * 3 + 2) (cutOn T i .wanted) (omega arith) (fine .cut i h .wanted) (wanted-place (cutOn T) K i h) k;
           };
           fill = same-field (given 0) (ofCutPart T .fill) refl (fine .fill .0) (sym (fine .fill .1));
         }

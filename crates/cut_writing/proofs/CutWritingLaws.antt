@@ -20,12 +20,12 @@ use Rattle.fields.proofs.PackingLaws.{packed-append, packed-over}
 use Rattle.sheets.specs.ModelSheet.{fillBits, fillPart, sheetChecks, judgeSheet}
 use Rattle.unpack.specs.declared.Read.{Read}
 use Rattle.unpack.specs.Unpacking.{unpacked}
-use Rattle.sheet_laws.proofs.Given.{read-code, ok}
+use Rattle.unpack.proofs.GivenLaws.{read-code, ok}
 use Rattle.cut_sheets.specs.CutPart.{CutSource, cutHeader, cutPart, cutBits, cutBytes, cutFields, cutEntries}
 use Rattle.cut_sheets.specs.CutSheet.{cutLent, ofCuts, cutSheetOf, givenChecks, writeCutsChecks}
 use Rattle.sheets.specs.LentTables.{tooFew}
 use Rattle.sheets.specs.Holding.{taskOn}
-use Rattle.sheet_laws.proofs.Held.{accepted-task}
+use Rattle.sheets.proofs.HeldTaskLaws.{accepted-task}
 use Rattle.cut_writing.specs.declared.CutsWritten.the-variants.{Sheet, Refused}
 use Rattle.cut_writing.specs.CutWriting.{outcome, writingCuts, WritesCuts}
 use Rattle.cut_sheets.specs.Judged.{CutsJudged}

@@ -20,7 +20,7 @@ use Rattle.fields.specs.Judging.{refusal, outside, each}
 use Rattle.fields.proofs.JudgingLaws.{neither, passed, refusal-append, inside-means}
 use Rattle.sheets.specs.ModelSheet.{sheetChecks, judgeSheet}
 use Rattle.sheets.specs.Holding.{taskOn}
-use Rattle.sheet_laws.proofs.Held.{accepted-task}
+use Rattle.sheets.proofs.HeldTaskLaws.{accepted-task}
 use Rattle.run.specs.Run as run
 use Rattle.run.specs.Run.{plan, noPlan, «open», rows, rowsOf}
 use Rattle.run.proofs.RunLaws.{Cheapest, NoPlan, Right, run-right}

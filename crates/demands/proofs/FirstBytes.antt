@@ -18,7 +18,8 @@ use Rattle.fields.proofs.PartLaws.{field-take}
 use Rattle.sheets.specs.ModelSheet.{headerPart, fieldsPart, entries, modelBits, columnsOf, stepsOf, columnOn, costOn, marksOn, sheetWith, ofSheet}
 use Rattle.sheets.specs.ModelSheet.{sheetChecks, judgePart, judgeSheet}
 use Rattle.sheets.proofs.SheetLaws.{bits-le, header-fine, part-header, part-done, part-fine, sheet-stopped, sheet-follows}
-use Rattle.sheets.proofs.RoundLaws.{Same, same-fields, same-field, bits-next}
+use Rattle.fields.proofs.PlaceLaws.{same-field}
+use Rattle.sheets.proofs.RoundLaws.{Same, same-fields, bits-next}
 use Rattle.sheet_laws.proofs.Largest.{largest}
 use Rattle.running.specs.declared.Answer.the-variants.{Refused}
 use Rattle.running.specs.Running.{roomCheck}

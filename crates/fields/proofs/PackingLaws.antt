@@ -24,6 +24,10 @@ abbrev pub Fit : List Entry → Type 0
 Fit [] = Unit {0}
 Fit (e ∷ es) = (e .field .value < 2 ^ e .width) × Fit es
 
+-- one field more, its position and value known by other names
+pub put-next : (w : ℕ) {a b x y : ℕ} {t l u : List ℕ} → u ≡ putField a w x t → a ≡ b → x ≡ y → t ≡ l → u ≡ putField b w y l
+put-next w e p q r = e ∙ (λ k. putField (p k) w (q k) (r k))
+
 -- ---- one list after the other
 pub bits-append : (a b : List Entry) → bitsIn (a ++ b) ≡ bitsIn a + bitsIn b
 unfolding bitsIn

@@ -1,14 +1,18 @@
--- Laws of values put into a table one after the other.
-use Prim.Native.Nat.{ℕ, zero, suc, _+_, _*_, _≤_, _<_}
+-- Laws of values put into a table one after the other, and of what stands at its places.
+use Prim.Native.Nat.{ℕ, zero, suc, _+_, _-_, _*_, _≤_, _<_}
 use native.Mathlib.Nat.{add-zero, zero-add, suc-mul, mul-le-mul, le-refl, le-of-suc-le-suc}
 use native.Mathlib.Omega.{arith}
+use native.Mathlib.Numerals.{add-one}
 use native.Mathlib.Decide.{decLt}
-use mathlib.Core.Path.{_≡_, refl, sym, ap, _∙_}
+use mathlib.Core.Path.{_≡_, refl, sym, ap, ap₂, _∙_}
+use mathlib.Core.Bool.{true}
 use mathlib.Core.List.{List, [], _∷_, _++_, append-assoc}
-use lib.ListN.{length, getD, set, drop, length-set, length-append}
-use Rattle.fields.specs.Judging.{each}
+use lib.ListN.{length, getD, set, take, drop, length-set, length-append, length-drop, List·getD-append}
+use lib.Seq.{length-take-le, take-all, getD-take, take-add, drop-cons, drop-drop}
+use borrow.Author.Tests.{lt-ltb}
+use Rattle.fields.specs.Judging.{Field, inTable, each}
 use Rattle.fields.specs.Places.{puts}
-use Rattle.fields.proofs.JudgingLaws.{each-more}
+use Rattle.fields.proofs.JudgingLaws.{each-more, place-here}
 
 pub puts-length : {A : Type 0} (at : ℕ) (xs l : List A) → length (puts at xs l) ≡ length l
 unfolding puts
@@ -64,11 +68,6 @@ puts-after a (x ∷ xs) (y ∷ l) h =
 pub puts-over : {A : Type 0} (xs l : List A) → length xs ≤ length l → puts 0 xs l ≡ xs ++ drop (length xs) l
 puts-over xs l h = puts-after [] xs l h
 
-getD-before : {A : Type 0} (d : A) (a b : List A) (k : ℕ) → k < length a → getD (a ++ b) k d ≡ getD a k d
-getD-before d (x ∷ a) b zero h = refl
-getD-before d (x ∷ a) b (suc k) h = getD-before d a b k (le-of-suc-le-suc h)
-getD-before d [] b k h = absurd (omega arith)
-
 getD-after : {A : Type 0} (d : A) (a b : List A) (k : ℕ) → getD (a ++ b) (length a + k) d ≡ getD b k d
 getD-after d [] b k = let e : 0 + k ≡ k = omega arith in rw e refl
 getD-after d (x ∷ a) b k = let e : suc (length a) + k ≡ suc (length a + k) = omega arith in rw e (getD-after d a b k)
@@ -87,7 +86,7 @@ module _ {A : Type 0} (d : A) (f : ℕ → List A) (c : ℕ) (same : (i : ℕ) �
       inside p = omega (arith, long, suc-mul i c, mul-le-mul {n₁ = suc i} {m₁ = c} {n₂ = n} {m₂ = c} p (le-refl c))
 
       split : (i < n → getD (each n f) (i * c + k) d ≡ getD (f i) k d) → Dec (i < n) → getD (each n f ++ f n) (i * c + k) d ≡ getD (f i) k d
-      split ih (yes p) = getD-before d (each n f) (f n) (i * c + k) (inside p) ∙ ih p
+      split ih (yes p) = List·getD-append (each n f) (f n) d (i * c + k) (inside p) ∙ ih p
       split ih (no p) =
           let e : i ≡ n = omega arith in
           rw e (ap (λ (x : ℕ). getD (each n f ++ f n) (x + k) d) (sym long) ∙ getD-after d (each n f) (f n) k)
@@ -95,3 +94,45 @@ module _ {A : Type 0} (d : A) (f : ℕ → List A) (c : ℕ) (same : (i : ℕ) �
 -- of numbers
 pub each-at : (f : ℕ → List ℕ) (c : ℕ) → ((i : ℕ) → length (f i) ≡ c) → (n i k : ℕ) → i < n → k < c → getD (each n f) (i * c + k) 0 ≡ getD (f i) k 0
 each-at = each-item 0
+
+-- ---- lists cut out of a table one after the other are its front
+pub slices : (f : ℕ → List ℕ) (c n at : ℕ) (l : List ℕ) → ((i : ℕ) → i < n → f i ≡ take c (drop (at + i * c) l)) → each n f ≡ take (n * c) (drop at l)
+unfolding each
+slices f c zero at l h = let z : 0 * c ≡ 0 = omega arith in rw z refl
+slices f c (suc n) at l h =
+    ap₂ (λ (x y : List ℕ). x ++ y) (slices f c n at l (λ i k. h i (omega arith))) (h n (omega arith) ∙ ap (take c) (sym (drop-drop (n * c) at l)))
+    ∙ sym (take-add (n * c) c (drop at l)) ∙ ap (λ (x : ℕ). take x (drop at l)) (sym (suc-mul n c))
+
+pub one : (l : List ℕ) (i : ℕ) → i < length l → take 1 (drop i l) ≡ getD l i 0 ∷ []
+one l i h = rw (drop-cons l i 0 h) refl
+
+pub two : (l : List ℕ) (i : ℕ) → i + 1 < length l → take 2 (drop i l) ≡ getD l i 0 ∷ getD l (i + 1) 0 ∷ []
+two l i h = rw (drop-cons l i 0 (omega arith)) (ap (λ (x : List ℕ). getD l i 0 ∷ x) (rw add-one (one l (suc i) (omega arith))))
+
+pub three : (l : List ℕ) (i : ℕ) → i + 2 < length l → take 3 (drop i l) ≡ getD l i 0 ∷ getD l (i + 1) 0 ∷ getD l (i + 2) 0 ∷ []
+three l i h =
+    let z : suc i + 1 ≡ i + 2 = omega arith in
+    rw (drop-cons l i 0 (omega arith)) (ap (λ (x : List ℕ). getD l i 0 ∷ x) (rw add-one (two l (suc i) (omega arith) ∙ rw z refl)))
+
+-- ---- fields of tables
+pub same-field : (f g : Field) → f .here ≡ true → g .here ≡ true → f .value ≡ g .value → f ≡ g
+same-field f g hf hg v = λ k. record { here = (hf ∙ sym hg) k; value = v k }
+
+-- a place of a table that begins with values is the field that its value was taken from
+pub filled-place : (xs rest : List ℕ) (k : ℕ) (f : Field) → k < length xs → f .here ≡ true → getD xs k 0 ≡ f .value → inTable (xs ++ rest) k ≡ f
+filled-place xs rest k f h here e = same-field (inTable (xs ++ rest) k) f (lt-ltb k (length (xs ++ rest)) (omega (arith, length-append xs rest))) here (List·getD-append xs rest 0 k h ∙ e)
+
+-- a place among the first k is there, and holds its value, exactly as in the list of them
+place-taken : (k : ℕ) (t : List ℕ) (i : ℕ) → i < k → inTable (take k t) i ≡ inTable t i
+place-taken k t i l = split (decLt (length t) k)
+  where
+    split : Dec (length t < k) → inTable (take k t) i ≡ inTable t i
+    split (yes h) = ap (λ (x : List ℕ). inTable x i) (take-all k t (omega arith))
+    split (no h) = same-field (inTable (take k t) i) (inTable t i) (place-here (take k t) i (omega (arith, length-take-le k t (omega arith)))) (place-here t i (omega arith)) (getD-take k t i 0 l)
+
+pub same-place : (k : ℕ) (a b : List ℕ) → take k a ≡ take k b → (i : ℕ) → i < k → inTable a i ≡ inTable b i
+same-place k a b e i l = sym (place-taken k a i l) ∙ ap (λ (x : List ℕ). inTable x i) e ∙ place-taken k b i l
+
+-- a tail that is taken whole, as a slice from its middle on has it
+pub rest-all : (s : List ℕ) (n : ℕ) → take (length s - n) (drop n s) ≡ drop n s
+rest-all s n = take-all (length s - n) (drop n s) (simp length-drop (omega arith))

@@ -16,7 +16,7 @@ use Rattle.fields.specs.Judging.{outside, refusal, each}
 use Rattle.fields.proofs.JudgingLaws.{neither, refusal-append, passed, inside-means}
 use Rattle.sheets.specs.ModelSheet.{sheetChecks, judgeSheet}
 use Rattle.sheets.specs.Holding.{taskOn}
-use Rattle.sheet_laws.proofs.Held.{accepted-task}
+use Rattle.sheets.proofs.HeldTaskLaws.{accepted-task}
 use Rattle.run.specs.Run as run
 use Rattle.run.specs.Run.{plan, noPlan, «open», rowsOf}
 use Rattle.run.proofs.LengthLaws.{plan-short}

@@ -16,7 +16,7 @@ use Rattle.fields.specs.Bits.{fieldAt}
 use Rattle.fields.specs.Judging.{check, outside, refusal, each, _then_}
 use Rattle.fields.proofs.JudgingLaws.{applies, passes, no-checks, refusal-append, inside-means, each-ext}
 use Rattle.sheets.specs.ModelSheet.{sheetChecks}
-use Rattle.cut_reading.proofs.RebuildLaws.{rest-all}
+use Rattle.fields.proofs.PlaceLaws.{rest-all}
 use Rattle.io.specs.Counts.{Counts}
 use Rattle.running.specs.declared.Answer.{Answer}
 use Rattle.running.specs.declared.Answer.the-variants.{Plan, NoPlan, Open, Refused}

@@ -21,7 +21,7 @@ use Rattle.fields.specs.Judging.{check, refusal}
 use Rattle.fields.proofs.JudgingLaws.{neither, passed, refusal-append}
 use Rattle.sheets.specs.LentTables.{tooFew}
 use Rattle.sheets.specs.Holding.{taskOn}
-use Rattle.sheet_laws.proofs.Held.{accepted-task}
+use Rattle.sheets.proofs.HeldTaskLaws.{accepted-task}
 use Rattle.cut_sheets.specs.CutPart.{cutNamed, cutsNamed, cutOn, countOf}
 use Rattle.cut_sheets.specs.CutSheet.{tailOf, cutSheetChecks, cutsOf}
 use Rattle.cut_sheets.proofs.CutRoundLaws.{own-accepted}

@@ -17,7 +17,7 @@ use Rattle.fields.specs.Places.{puts}
 use Rattle.fields.proofs.JudgingLaws.{each-ext}
 use Rattle.fields.proofs.PlaceLaws.{puts-over}
 use Rattle.sheets.specs.Holding.{taskOn}
-use Rattle.sheet_laws.proofs.Held.{accepted-task}
+use Rattle.sheets.proofs.HeldTaskLaws.{accepted-task}
 use Rattle.blocks.specs.declared.Cut.{Cut}
 use Rattle.blocks.specs.Blocks.{accepted}
 use Rattle.blocks.specs.Flat.{blocksIn, cutsIn}

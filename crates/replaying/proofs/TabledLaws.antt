@@ -12,7 +12,7 @@ use Rattle.task.proofs.LoopLaws.{over-length}
 use Rattle.task.proofs.TableLaws.{columns-of, steps-of}
 use Rattle.sheets.specs.ModelSheet.{judgeSheet}
 use Rattle.sheets.specs.Holding.{taskOn}
-use Rattle.sheet_laws.proofs.Given.{read-code, given-task, given-accepted}
+use Rattle.unpack.proofs.GivenLaws.{read-code, given-task, given-accepted}
 use Rattle.unpack.specs.declared.Read.{Read}
 use Rattle.unpack.specs.Unpacking.{unpacked}
 use Rattle.blocks.specs.Blocks.{only}

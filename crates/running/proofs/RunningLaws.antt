@@ -19,7 +19,7 @@ use Rattle.fields.proofs.JudgingLaws.{stop, go, applies, passes, passed, no-che
 use Rattle.sheets.specs.ModelSheet.{sheetChecks, judgeSheet}
 use Rattle.unpack.specs.declared.Read.{Read}
 use Rattle.unpack.specs.Unpacking.{unpacked}
-use Rattle.sheet_laws.proofs.Given.{read-code, given-task, given-accepted}
+use Rattle.unpack.proofs.GivenLaws.{read-code, given-task, given-accepted}
 use Rattle.run.specs.Run as run
 use Rattle.run.specs.Run.{plan, refine, rows, rowsOf}
 use Rattle.run.proofs.LengthLaws.{plan-short}

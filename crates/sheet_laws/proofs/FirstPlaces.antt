@@ -4,33 +4,20 @@
 use Prim.Native.Nat.{ℕ, suc, _+_, _*_, _<_}
 use native.Mathlib.Nat.{suc-mul, mul-le-mul, le-refl}
 use native.Mathlib.Omega.{arith}
-use native.Mathlib.Decide.{decLt}
-use mathlib.Core.Path.{_≡_, refl, sym, ap, _∙_}
+use mathlib.Core.Path.{_≡_, refl, ap}
 use mathlib.Core.Bool.{cond}
 use mathlib.Core.List.{List, [], _∷_, _++_}
 use lib.Dec.{eqb}
-use lib.ListN.{length, take}
-use lib.Seq.{length-take-le, take-all, getD-take}
+use lib.ListN.{take}
 use Rattle.task.specs.Loops.{over}
-use Rattle.fields.specs.Judging.{Entry, inTable, checksOf, refusal}
+use Rattle.fields.specs.Judging.{Entry, checksOf, refusal}
 use Rattle.fields.specs.Packing.{sheetOf}
-use Rattle.fields.proofs.JudgingLaws.{place-here}
+use Rattle.fields.proofs.PlaceLaws.{same-place}
 use Rattle.sheets.specs.ModelSheet.{Source, entries, modelBytes}
 use Rattle.sheets.specs.LentTables.{columnIn, marksIn, ofTables, tooFew, writeChecks}
-use Rattle.sheets.proofs.RoundLaws.{Same, same-fields, same-field}
+use Rattle.sheets.proofs.RoundLaws.{Same, same-fields}
 use Rattle.writing.specs.declared.write.SheetWritten.the-variants.{Sheet, Refused}
 use Rattle.writing.specs.Writing.{outcome, writing}
-
--- a place among the first k is there, and holds its value, exactly as in the list of them
-place-taken : (k : ℕ) (t : List ℕ) (i : ℕ) → i < k → inTable (take k t) i ≡ inTable t i
-place-taken k t i l = split (decLt (length t) k)
-  where
-    split : Dec (length t < k) → inTable (take k t) i ≡ inTable t i
-    split (yes h) = ap (λ (x : List ℕ). inTable x i) (take-all k t (omega arith))
-    split (no h) = same-field (inTable (take k t) i) (inTable t i) (place-here (take k t) i (omega (arith, length-take-le k t (omega arith)))) (place-here t i (omega arith)) (getD-take k t i 0 l)
-
-pub same-place : (k : ℕ) (a b : List ℕ) → take k a ≡ take k b → (i : ℕ) → i < k → inTable a i ≡ inTable b i
-same-place k a b e i l = sym (place-taken k a i l) ∙ ap (λ (x : List ℕ). inTable x i) e ∙ place-taken k b i l
 
 module _ (n m : ℕ) (f f′ c c′ k k′ : List ℕ) (frames : take (n * 3) f ≡ take (n * 3) f′) (costs : take m c ≡ take m c′) (marks : take (m * (n * 2)) k ≡ take (m * (n * 2)) k′) where
   abbrev P : Source

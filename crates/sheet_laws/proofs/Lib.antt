@@ -1,9 +1,7 @@
-pub mod Held
 pub mod TablesBack
 pub mod ModelBack
 pub mod Largest
 pub mod Examples
 pub mod Refusals
 pub mod SameModel
-pub mod Given
 pub mod FirstPlaces

@@ -3,18 +3,15 @@
 -- The checks, in 01's order, are `readChecks` and `writeChecks`: for each field of `entries` in sheet order 1 where it is not complete and
 -- then its own number where its value is bad; then, for a reader, 6 where bytes follow; and last 8 for each table.
 use Prim.Native.Nat.{ℕ}
-use mathlib.Core.Path.{_≡_, refl}
+use mathlib.Core.Path.{refl}
 use mathlib.Core.List.{List, [], _∷_, _++_}
 use Rattle.task.specs.Loops.{over}
 use Rattle.fields.specs.Judging.{checksOf}
 use Rattle.fields.specs.Packing.{sheetOf}
 use Rattle.fields.proofs.ExactLaws.{has, Numbers, fields-append, fields-each, numbers-append, Judged, judges}
-use Rattle.sheets.specs.ModelSheet.{Source, columnsIn, stepsIn, columnsOf, stepsOf, modelBytes, headerPart, columnPart, marksPart, stepPart, fillPart, fieldsPart, entries, ofSheet, sheetChecks, judgeSheet}
+use Rattle.sheets.specs.ModelSheet.{Source, columnsIn, stepsIn, columnsOf, stepsOf, modelBytes, headerPart, columnPart, marksPart, stepPart, fillPart, fieldsPart, entries, ofSheet, sheetChecks}
 use Rattle.sheets.specs.LentTables.{frameOf, costsOf, marksOf, readChecks, writeChecks}
 use Rattle.sheets.proofs.SheetLaws.{H, C, S, F}
-use Rattle.sheets.specs.Holding.{modelOf, noModel}
-use Rattle.unpack.specs.declared.Read.{Read}
-use Rattle.unpack.specs.Unpacking.{answer, unpacked}
 use Rattle.reading.specs.declared.ModelRead.the-variants.{Held, Refused}
 use Rattle.reading.specs.Reading.{Outcome, outcome, number, reading}
 use Rattle.writing.specs.declared.write.SheetWritten.the-variants.{Sheet, Refused as NotWritten}
@@ -37,19 +34,11 @@ model-numbers p =
     (fields-append q (C p n m) (S p n m ++ F p n m) (fields-each q (columnPart (p .column)) n (λ i. refl))
     (fields-append q (S p n m) (F p n m) (fields-each q (stepPart (p .column) (p .cost) (p .marks) n) m (λ j. fields-each q (marksPart (p .column) (p .marks) j) n (λ i. refl))) refl))
 
--- ---- a sheet judged by itself, as the reader by value judges it
+-- ---- a sheet judged by itself
 module _ (s : List ℕ) where
   pub sheet-numbers : Numbers (has numbers) (sheetChecks s)
   unfolding sheetChecks
   sheet-numbers = numbers-append (has numbers) numbers refl (checksOf (entries (ofSheet s))) _ (model-numbers (ofSheet s)) refl
-
-  by-value : Judged (λ (r : Read). r .code) (λ n. answer n noModel) (sheetChecks s) (answer 0 (modelOf (ofSheet s))) (unpacked s)
-  unfolding unpacked judgeSheet
-  by-value = judges _ _ numbers refl (sheetChecks s) sheet-numbers _ refl refl
-
-  pub code-judged : unpacked s .code ≡ judgeSheet s
-  unfolding judgeSheet
-  code-judged = by-value .told
 
 -- ---- the reader
 module _ (s frame costs marks : List ℕ) where

@@ -11,7 +11,7 @@ use Rattle.fields.proofs.PackingLaws.{bytes-take}
 use Rattle.sheets.specs.ModelSheet.{modelBytes, columnsOf, stepsOf, sheetWith, ofSheet, judgePart, judgeSheet}
 use Rattle.sheets.specs.Holding.{taskIn}
 use Rattle.sheets.proofs.FrontLaws.{part-length, front-same, taken-accepted}
-use Rattle.sheet_laws.proofs.Held.{canonical}
+use Rattle.sheets.proofs.HeldTaskLaws.{canonical}
 use Rattle.sheet_laws.proofs.ModelBack.{same-task}
 
 module _ (s : List ℕ) (ok : judgePart s ≡ 0) where

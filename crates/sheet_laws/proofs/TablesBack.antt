@@ -1,24 +1,21 @@
 -- Tables written and read back are the same, and a sheet read into tables and written from them is the same bytes.
-use Prim.Native.Nat.{ℕ, zero, suc, _+_, _*_, _≤_, _<_}
+use Prim.Native.Nat.{ℕ, suc, _+_, _*_, _≤_, _<_}
 use native.Mathlib.Nat.{suc-mul, add-zero, zero-add, mul-le-mul, le-refl, mul-one}
 use native.Mathlib.Omega.{arith}
-use native.Mathlib.Numerals.{add-one}
 use mathlib.Core.Path.{_≡_, refl, sym, ap, ap₂, _∙_, subst}
-use mathlib.Core.Bool.{true}
-use mathlib.Core.List.{List, [], _∷_, _++_}
-use lib.ListN.{length, getD, take, drop, length-append, List·getD-append}
-use lib.Seq.{drop-cons, drop-drop, take-add}
-use borrow.Author.Tests.{eq-eqb, ltb-true, lt-ltb, le-ltb}
+use mathlib.Core.List.{List, [], _∷_}
+use lib.ListN.{length, getD, take, drop}
+use borrow.Author.Tests.{eq-eqb, ltb-true, le-ltb}
 use Rattle.task.specs.Loops.{over}
-use Rattle.fields.specs.Judging.{Field, inTable, given, judged, refusal, each}
+use Rattle.fields.specs.Judging.{Field, given, judged, refusal, each}
 use Rattle.fields.specs.Packing.{sheetOf}
 use Rattle.fields.proofs.JudgingLaws.{each-ext, refusal-append, go, last-went, passes, no-checks}
-use Rattle.fields.proofs.PlaceLaws.{each-at}
+use Rattle.fields.proofs.PlaceLaws.{each-at, slices, one, two, three, same-field, filled-place}
 use Rattle.fields.proofs.PutLaws.{Bytes}
 use Rattle.sheets.specs.ModelSheet.{Source, ColumnFields, MarkFields, columnsIn, stepsIn, entries, modelBytes, columnsOf, stepsOf, sheetWith, ofSheet, sheetChecks, judgePart, judgeSheet}
 use Rattle.sheets.specs.LentTables.{columnValues, costValue, markValues, stepValues, frameOf, costsOf, marksOf, columnIn, marksIn, ofTables, readChecks, writeChecks}
 use Rattle.sheets.proofs.TableLaws.{column-length, cost-length, pair-length, row-length, frame-length, costs-length, marks-length}
-use Rattle.sheets.proofs.RoundLaws.{Fine, Same, same-fields, same-field, accepted, written-same, written-accepted, own-fine, exact-length, read-write}
+use Rattle.sheets.proofs.RoundLaws.{Fine, Same, same-fields, accepted, written-same, written-accepted, own-fine, exact-length, read-write}
 use Rattle.reading.specs.declared.ModelRead.the-variants.{Held}
 use Rattle.reading.specs.Reading.{outcome, reading}
 use Rattle.sheets.proofs.SheetLaws.{sheet-fine}
@@ -46,25 +43,6 @@ module _ (p q : Source) (e : Same p q (columnsIn p) (stepsIn p)) where
   same-marks =
       each-ext (stepsIn p) _ _ (λ j h. each-ext (columnsIn p) _ _ (λ i l. ap (λ (k : MarkFields). k .need .value ∷ k .effect .value ∷ []) (e .marks j i h l)))
       ∙ ap₂ (λ (m n : ℕ). each m (stepValues (q .marks) n)) same-steps same-columns
-
--- ---- lists cut out of a table one after the other are its front
-pub slices : (f : ℕ → List ℕ) (c n at : ℕ) (l : List ℕ) → ((i : ℕ) → i < n → f i ≡ take c (drop (at + i * c) l)) → each n f ≡ take (n * c) (drop at l)
-unfolding each
-slices f c zero at l h = let z : 0 * c ≡ 0 = omega arith in rw z refl
-slices f c (suc n) at l h =
-    ap₂ (λ (x y : List ℕ). x ++ y) (slices f c n at l (λ i k. h i (omega arith))) (h n (omega arith) ∙ ap (take c) (sym (drop-drop (n * c) at l)))
-    ∙ sym (take-add (n * c) c (drop at l)) ∙ ap (λ (x : ℕ). take x (drop at l)) (sym (suc-mul n c))
-
-one : (l : List ℕ) (i : ℕ) → i < length l → take 1 (drop i l) ≡ getD l i 0 ∷ []
-one l i h = rw (drop-cons l i 0 h) refl
-
-two : (l : List ℕ) (i : ℕ) → i + 1 < length l → take 2 (drop i l) ≡ getD l i 0 ∷ getD l (i + 1) 0 ∷ []
-two l i h = rw (drop-cons l i 0 (omega arith)) (ap (λ (x : List ℕ). getD l i 0 ∷ x) (rw add-one (one l (suc i) (omega arith))))
-
-pub three : (l : List ℕ) (i : ℕ) → i + 2 < length l → take 3 (drop i l) ≡ getD l i 0 ∷ getD l (i + 1) 0 ∷ getD l (i + 2) 0 ∷ []
-three l i h =
-    let z : suc i + 1 ≡ i + 2 = omega arith in
-    rw (drop-cons l i 0 (omega arith)) (ap (λ (x : List ℕ). getD l i 0 ∷ x) (rw add-one (two l (suc i) (omega arith) ∙ rw z refl)))
 
 -- ---- a reader refuses nothing of an accepted sheet where the tables are long enough
 no-refusal : (s f c k : List ℕ) → judgeSheet s ≡ 0 → columnsOf s * 3 ≤ length f → stepsOf s ≤ length c → stepsOf s * (columnsOf s * 2) ≤ length k → refusal (readChecks s f c k) ≡ 0
@@ -151,15 +129,6 @@ unfolding judgePart
 part-of s ok = sheet-fine s ok .0
 
 -- ---- read and written again
-module _ (xs l : List ℕ) (k : ℕ) (h : k < length xs) where
-  front-at : getD (over xs l) k 0 ≡ getD xs k 0
-  unfolding over
-  front-at = List·getD-append xs _ 0 k h
-
-  front-here : inTable (over xs l) k .here ≡ true
-  unfolding over
-  front-here = lt-ltb k (length (xs ++ drop (length xs) l)) (omega (arith, length-append xs (drop (length xs) l)))
-
 -- what stands in the tables of a model
 module _ (p : Source) where
   module _ (i : ℕ) (h : i < columnsIn p) where
@@ -198,26 +167,22 @@ module _ (p : Source) (good : Fine p (columnsIn p) (stepsIn p)) (f c k : List �
   abbrev Q : Source
   Q = ofTables (columnsIn p) (stepsIn p) F K M
 
-  -- a place of a filled table is the field that it was filled from
-  same-place : (xs l : List ℕ) (x : ℕ) (g : Field) → x < length xs → g .here ≡ true → getD xs x 0 ≡ g .value → inTable (over xs l) x ≡ g
-  same-place xs l x g h e v = same-field _ g (front-here xs l x h) e (front-at xs l x h ∙ v)
-
   pub filled-same : Same Q p (columnsIn p) (stepsIn p)
-  unfolding ofTables columnIn marksIn columnValues markValues
+  unfolding over ofTables columnIn marksIn columnValues markValues
   filled-same =
       record {
         form = same-field (given 1) (p .form) refl (good .header .complete .0) (sym (good .header .form));
         columns = same-field (given (columnsIn p)) (p .columns) refl (good .header .complete .1) refl;
         steps = same-field (given (stepsIn p)) (p .steps) refl (good .header .complete .2) refl;
         column = λ i h t. record {
-          size = same-place (frameOf p) f (i * 3) (p .column i .size) (rw add-zero at (in-frame p i h 0 (omega arith))) (good .size i h .0) (rw add-zero at (at-column p i h 0 (omega arith))) t;
-          start = same-place (frameOf p) f (i * 3 + 1) (p .column i .start) (in-frame p i h 1 (omega arith)) (good .start i h .0) (at-column p i h 1 (omega arith)) t;
-          goal = same-place (frameOf p) f (i * 3 + 2) (p .column i .goal) (in-frame p i h 2 (omega arith)) (good .goal i h .0) (at-column p i h 2 (omega arith)) t;
+          size = filled-place (frameOf p) (drop (length (frameOf p)) f) (i * 3) (p .column i .size) (rw add-zero at (in-frame p i h 0 (omega arith))) (good .size i h .0) (rw add-zero at (at-column p i h 0 (omega arith))) t;
+          start = filled-place (frameOf p) (drop (length (frameOf p)) f) (i * 3 + 1) (p .column i .start) (in-frame p i h 1 (omega arith)) (good .start i h .0) (at-column p i h 1 (omega arith)) t;
+          goal = filled-place (frameOf p) (drop (length (frameOf p)) f) (i * 3 + 2) (p .column i .goal) (in-frame p i h 2 (omega arith)) (good .goal i h .0) (at-column p i h 2 (omega arith)) t;
         };
-        cost = λ j h. same-place (costsOf p) c j (p .cost j) (omega (arith, costs-length p)) (good .cost j h) (at-cost p j h);
+        cost = λ j h. filled-place (costsOf p) (drop (length (costsOf p)) c) j (p .cost j) (omega (arith, costs-length p)) (good .cost j h) (at-cost p j h);
         marks = λ j i h l t. record {
-          need = same-place (marksOf p) k (j * (columnsIn p * 2) + i * 2) (p .marks j i .need) (omega (arith, in-marks p j i h l 0 (omega arith))) (good .need j i h l .0) (need-at j i h l) t;
-          effect = same-place (marksOf p) k (j * (columnsIn p * 2) + i * 2 + 1) (p .marks j i .effect) (omega (arith, in-marks p j i h l 1 (omega arith))) (good .effect j i h l .0) (effect-at j i h l) t;
+          need = filled-place (marksOf p) (drop (length (marksOf p)) k) (j * (columnsIn p * 2) + i * 2) (p .marks j i .need) (omega (arith, in-marks p j i h l 0 (omega arith))) (good .need j i h l .0) (need-at j i h l) t;
+          effect = filled-place (marksOf p) (drop (length (marksOf p)) k) (j * (columnsIn p * 2) + i * 2 + 1) (p .marks j i .effect) (omega (arith, in-marks p j i h l 1 (omega arith))) (good .effect j i h l .0) (effect-at j i h l) t;
         };
         fill = same-field (given 0) (p .fill) refl (good .fill .0) (sym (good .fill .1));
       }

@@ -3,3 +3,4 @@ pub mod HoldLaws
 pub mod RoundLaws
 pub mod FrontLaws
 pub mod TableLaws
+pub mod HeldTaskLaws

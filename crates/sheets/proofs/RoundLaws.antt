@@ -12,6 +12,7 @@ use borrow.Author.Tests.{leb-true, leb-false}
 use Rattle.fields.specs.Judging.{Field, Entry, onSheet, entry, free, outside, judged, each}
 use Rattle.fields.specs.Packing.{bitsIn, sheetOf}
 use Rattle.fields.proofs.JudgingLaws.{first-fine, fine, judged-at, inside-means, sheet-here, each-ext}
+use Rattle.fields.proofs.PlaceLaws.{same-field}
 use Rattle.fields.proofs.PutLaws.{Bytes}
 use Rattle.fields.proofs.PackingLaws.{Holds, Fit, fit-append, fit-each, holds-fit, sheet-length, sheet-holds, sheet-only}
 use Rattle.sheets.specs.ModelSheet.{Source, ColumnFields, MarkFields, headerPart, columnPart, marksPart, stepPart, fillPart, columnBits, modelBits, modelBytes, fillBits, fieldsPart, columnsIn, stepsIn, entries, columnsOf, stepsOf, columnOn, costOn, marksOn, sheetWith, ofSheet, judgePart, judgeSheet}
@@ -118,9 +119,6 @@ module _ (p q : Source) (n m : ℕ) (e : Same p q n m) where
   unfolding fieldsPart
   same-fields =
       λ k. same-header k ++ (each-ext n (columnPart (p .column)) (columnPart (q .column)) same-column k ++ (each-ext m (stepPart (p .column) (p .cost) (p .marks) n) (stepPart (q .column) (q .cost) (q .marks) n) same-step k ++ fillPart (modelBits n m) (e .fill k)))
-
-pub same-field : (f g : Field) → f .here ≡ true → g .here ≡ true → f .value ≡ g .value → f ≡ g
-same-field f g hf hg v = λ k. record { here = (hf ∙ sym hg) k; value = v k }
 
 pub bits-next : (n j : ℕ) → modelBits n (suc j) ≡ modelBits n j + 16 + n * 12
 unfolding modelBits

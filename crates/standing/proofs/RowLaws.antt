@@ -13,9 +13,8 @@ use Rattle.task.specs.declared.Column.{Column}
 use Rattle.task.specs.Loops.{first, tab, over}
 use Rattle.task.specs.Task.{column}
 use Rattle.blocks.specs.Blocks.{common, isEmpty}
-use Rattle.blocks.proofs.FlatLaws.{over-set}
 use Rattle.settling.proofs.JoinLaws.{over-past}
-use Rattle.task.proofs.LoopLaws.{first-here}
+use Rattle.task.proofs.LoopLaws.{first-here, over-set}
 use Rattle.standing.specs.Standing.{landed, isOff, offAt, lowestOff}
 
 -- the search for the lowest column, turn by turn

@@ -184,6 +184,14 @@ pub over-length : {A : Type 0} (n : ℕ) (f : ℕ → A) (l : List A) → n ≤ 
 unfolding over
 over-length n f l h = rw (length-append, tab-length n f, length-drop) (omega arith)
 
+-- one place more
+pub over-set : {A : Type 0} (f : ℕ → A) (i : ℕ) (v : A) (l l₀ : List A) → l ≡ over (tab i f) l₀ → i < length l₀ → v ≡ f i → set l i v ≡ over (tab (i + 1) f) l₀
+over-set f i v l l₀ e h k = rw (e, k) (sym (over-more i f l₀ h))
+
+-- and all of them, where the loop stands at their number
+pub over-end : {A : Type 0} (f : ℕ → A) (l : List A) {t : List A} (i n : ℕ) → i ≤ n → n ≤ i → t ≡ over (tab i f) l → t ≡ over (tab n f) l
+over-end f l i n h g e = let q : i ≡ n = omega arith in e ∙ ap (λ (k : ℕ). over (tab k f) l) q
+
 -- what was written stands at its place
 pub over-at : {A : Type 0} (n : ℕ) (f : ℕ → A) (l : List A) (d : A) (i : ℕ) → i < n → getD (over (tab n f) l) i d ≡ f i
 unfolding over

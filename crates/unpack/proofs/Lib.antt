@@ -1,1 +1,2 @@
 pub mod UnpackLaws
+pub mod GivenLaws

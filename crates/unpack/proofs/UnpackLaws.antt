@@ -1,10 +1,9 @@
--- Laws of filling a table from the front, of the marks' places, and the two ways of unpacking a sheet.
-use Prim.Native.Nat.{ℕ, _+_, _*_, _/_, _%_, _≤_, _<_}
+-- Laws of the marks' places, and the two ways of unpacking a sheet.
+use Prim.Native.Nat.{ℕ, _*_, _/_, _%_, _≤_, _<_}
 use native.Mathlib.Nat.{add-zero}
-use native.Mathlib.Omega.{arith}
 use mathlib.Core.Path.{_≡_, refl, sym, ap, ap₂, _∙_}
 use mathlib.Core.List.{List}
-use lib.ListN.{length, set, length-replicate}
+use lib.ListN.{length, length-replicate}
 use borrow.Author.Tests.{eq-eqb, ne-eqb, lt-ltb, le-ltb}
 use Rattle.task.specs.declared.Model.{Model}
 use Rattle.task.specs.declared.Mark.{Mark}
@@ -12,26 +11,16 @@ use Rattle.task.specs.declared.Position.{Position}
 use Rattle.task.specs.Task.{position}
 use Rattle.task.specs.Loops.{tab, over}
 use Rattle.task.specs.Tables.{mark}
-use Rattle.task.proofs.LoopLaws.{over-none, over-more, tab-ext}
+use Rattle.task.proofs.LoopLaws.{tab-ext}
 use Rattle.fields.specs.Bits.{fieldAt}
 use Rattle.sheets.specs.ModelSheet.{columnsOf, stepsOf, columnOn, costOn, marksOn, sheetWith, ofSheet, judgeSheet}
 use Rattle.sheets.specs.Holding.{unused, markPlace, markTable, modelOf, noModel}
 use Rattle.unpack.specs.Unpacking.{sizeOn, startOn, goalOn, tenthsOn, markOn, answer, unpacked}
 
--- ---- a table filled from the front
+-- ---- the places of a table
 pub unused-length : {A : Type 0} (n : ℕ) (a : A) → length (unused n a) ≡ n
 unfolding unused
 unused-length n a = length-replicate n a
-
-module _ {A : Type 0} (f : ℕ → A) (places : ℕ) (a : A) where
-  pub begun : unused places a ≡ over (tab 0 f) (unused places a)
-  begun = sym (over-none f (unused places a))
-
-  pub grown : {t : List A} {v : A} (i : ℕ) → i < places → t ≡ over (tab i f) (unused places a) → v ≡ f i → set t i v ≡ over (tab (i + 1) f) (unused places a)
-  grown i h e q = ap₂ (λ (t : List A) (v : A). set t i v) e q ∙ sym (over-more i f (unused places a) (omega (arith, unused-length places a)))
-
-  pub ended : {t : List A} (i n : ℕ) → i ≤ n → n ≤ i → t ≡ over (tab i f) (unused places a) → t ≡ over (tab n f) (unused places a)
-  ended i n h g e = let q : i ≡ n = omega arith in e ∙ ap (λ (k : ℕ). over (tab k f) (unused places a)) q
 
 -- ---- the marks
 pub mark-there : (f : ℕ → ℕ → ℕ) (n k : ℕ) {v : ℕ} → k % 16 < n → v ≡ f (k / 16) (k % 16) → mark v ≡ markPlace f n k

@@ -1,5 +1,5 @@
 -- Writing a sheet, field after field, and the two ways that it ends.
-use Prim.Native.Nat.{ℕ, zero, suc, _+_, _*_, _≤_, _<_}
+use Prim.Native.Nat.{ℕ, zero, suc, _*_, _≤_, _<_}
 use native.Mathlib.Nat.{mul-le-mul}
 use native.Mathlib.Omega.{arith}
 use mathlib.Core.Path.{_≡_, refl, sym, ap, ap₂, _∙_}
@@ -20,10 +20,6 @@ use Rattle.sheets.proofs.HoldLaws.{at-columns, at-steps, at-fill, sheet-bits, w
 use Rattle.sheets.proofs.RoundLaws.{fits}
 use Rattle.writing.specs.declared.write.SheetWritten.the-variants.{Sheet, Refused}
 use Rattle.writing.specs.Writing.{outcome, writing}
-
--- one field more, its position and value known by other names
-pub put-next : (w : ℕ) {a b x y : ℕ} {t l u : List ℕ} → u ≡ putField a w x t → a ≡ b → x ≡ y → t ≡ l → u ≡ putField b w y l
-put-next w e p q r = e ∙ (λ k. putField (p k) w (q k) (r k))
 
 -- the rows of a model's marks lie low
 pub row-le : (n j : ℕ) → n ≤ 16 → j < 128 → j * (n * 2) ≤ 4096

@@ -4,8 +4,7 @@ use mathlib.Core.Path.{_≡_, sym, subst}
 use lib.ListN.{length, set, length-set}
 use Rattle.task.specs.Loops.{tab, over}
 use Rattle.task.specs.Sizes.{limits}
-use Rattle.task.proofs.LoopLaws.{over-none}
-use Rattle.blocks.proofs.FlatLaws.{over-set}
+use Rattle.task.proofs.LoopLaws.{over-none, over-set}
 use Rattle.along.specs.Along.{hereAfter, costAfter}
 use Rattle.along.proofs.TurnLaws.{here-none, here-more, cost-after}
 use borrow.Author.Needs.{needs}

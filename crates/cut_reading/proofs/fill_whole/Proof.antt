@@ -5,8 +5,7 @@ use lib.ListN.{length, length-set}
 use Rattle.fields.proofs.FieldLaws.{read-at}
 use Rattle.task.specs.Loops.{tab, over}
 use Rattle.task.specs.Sizes.{limits}
-use Rattle.task.proofs.LoopLaws.{over-none}
-use Rattle.blocks.proofs.FlatLaws.{over-set}
+use Rattle.task.proofs.LoopLaws.{over-none, over-set}
 use Rattle.blocks.specs.Blocks.{every}
 use Rattle.sheets.specs.ModelSheet.{columnsOf}
 use Rattle.unpack.specs.Unpacking.{sizeOn}

@@ -2,8 +2,9 @@ use mathlib.Core.Path.{sym, _∙_}
 use borrow.Author.Tests.{not-true, not-false}
 use lib.ListN.{length}
 use Rattle.sheets.specs.Holding.{taskOn}
+use Rattle.fields.proofs.PlaceLaws.{rest-all}
 use Rattle.cut_sheets.proofs.CutSheetLaws.{front-take}
-use Rattle.cut_reading.proofs.RebuildLaws.{rest-all, columns-small, wide, whole-long, whole-block, stops-model, stops-inner, stops-ten, ends}
+use Rattle.cut_reading.proofs.RebuildLaws.{columns-small, wide, whole-long, whole-block, stops-model, stops-inner, stops-ten, ends}
 use borrow.Author.Needs.{needs}
 use Rattle.cut_reading.proofs.judge_cut_sheet.Statement.{statement}
 use Rattle.cut_reading.proofs.judge_cut_sheet.Tie as tie

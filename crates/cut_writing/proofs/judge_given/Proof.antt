@@ -2,7 +2,7 @@ use native.Mathlib.Omega.{arith}
 use mathlib.Core.Path.{refl}
 use borrow.Author.Needs.{needs}
 use Rattle.cut_reading.proofs.RebuildLaws.{first-long, first-block}
-use Rattle.sheet_laws.proofs.Given.{given-accepted, given-columns, few-columns}
+use Rattle.unpack.proofs.GivenLaws.{given-accepted, given-columns, few-columns}
 use Rattle.cut_writing.proofs.CutWritingLaws.{given-model, given-cuts, too-many, lent-judged}
 use Rattle.cut_writing.proofs.judge_given.Statement.{statement}
 use Rattle.cut_writing.proofs.judge_given.Tie as tie

@@ -3,7 +3,7 @@ use mathlib.Core.Path.{refl, ap}
 use Rattle.fields.specs.Packing.{packed}
 use Rattle.cut_sheets.specs.CutPart.{cutPart}
 use Rattle.cut_sheets.specs.CutSheet.{cutLent}
-use Rattle.writing.proofs.WritingLaws.{put-next}
+use Rattle.fields.proofs.PackingLaws.{put-next}
 use borrow.Author.Needs.{needs}
 use Rattle.cut_writing.proofs.put_cut.Statement.{statement}
 use Rattle.cut_writing.proofs.put_cut.Tie as tie

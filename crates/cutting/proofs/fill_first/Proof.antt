@@ -6,8 +6,8 @@ use native.Mathlib.Omega.{arith}
 use lib.ListN.{length, length-set}
 use Rattle.task.specs.Loops.{tab, over}
 use Rattle.task.specs.Sizes.{limits, blockPlaces}
-use Rattle.task.proofs.LoopLaws.{over-none}
-use Rattle.blocks.proofs.FlatLaws.{over-set, firstSet, first-whole}
+use Rattle.task.proofs.LoopLaws.{over-none, over-set}
+use Rattle.blocks.proofs.FlatLaws.{firstSet, first-whole}
 use borrow.Author.Needs.{needs}
 use Rattle.cutting.proofs.fill_first.Statement.{statement}
 use Rattle.cutting.proofs.fill_first.Tie as tie

@@ -3,9 +3,9 @@ use Prim.Native.Nat.{_-_, _≤_}
 use native.Mathlib.Omega.{arith}
 use lib.ListN.{length, length-set}
 use Rattle.task.specs.Loops.{tab, over}
-use Rattle.task.proofs.LoopLaws.{over-none}
+use Rattle.task.proofs.LoopLaws.{over-none, over-set}
 use Rattle.blocks.specs.Masks.{needSet, needSets}
-use Rattle.blocks.proofs.FlatLaws.{over-all, over-set}
+use Rattle.blocks.proofs.FlatLaws.{over-all}
 use borrow.Author.Needs.{needs}
 use Rattle.masks.proofs.fill_needs.Statement.{statement}
 use Rattle.masks.proofs.fill_needs.Tie as tie

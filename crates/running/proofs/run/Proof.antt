@@ -1,5 +1,5 @@
 use native.Mathlib.Omega.{arith}
-use Rattle.sheet_laws.proofs.Given.{given-accepted}
+use Rattle.unpack.proofs.GivenLaws.{given-accepted}
 use Rattle.running.proofs.RunningLaws.{sheet-refused, room-refused, fits, known, room-for-steps, path-costs, ran}
 use borrow.Author.Needs.{needs}
 use Rattle.running.proofs.run.Statement.{statement}

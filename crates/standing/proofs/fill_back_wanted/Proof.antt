@@ -1,7 +1,7 @@
 use Rattle.standing.specs.Standing.{backSet, backAt, backRow}
-use Rattle.blocks.proofs.FlatLaws.{over-all, over-set}
+use Rattle.blocks.proofs.FlatLaws.{over-all}
 use Rattle.blocks.specs.Flat.{past}
-use Rattle.task.proofs.LoopLaws.{over-none}
+use Rattle.task.proofs.LoopLaws.{over-none, over-set}
 use Rattle.task.specs.Loops.{tab, over}
 use lib.ListN.{length, length-set}
 use native.Mathlib.Omega.{arith}

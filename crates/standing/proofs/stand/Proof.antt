@@ -4,9 +4,8 @@ use native.Mathlib.Omega.{arith}
 use lib.ListN.{length, getD, length-set}
 use Rattle.task.specs.Loops.{tab, over}
 use Rattle.task.specs.Task.{position}
-use Rattle.task.proofs.LoopLaws.{over-none}
+use Rattle.task.proofs.LoopLaws.{over-none, over-set}
 use Rattle.blocks.specs.Blocks.{only}
-use Rattle.blocks.proofs.FlatLaws.{over-set}
 use borrow.Author.Needs.{needs}
 use Rattle.standing.proofs.stand.Statement.{statement}
 use Rattle.standing.proofs.stand.Tie as tie

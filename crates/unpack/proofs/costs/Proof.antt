@@ -1,12 +1,13 @@
 use Prim.Native.Nat.{ℕ, _-_, _≤_}
 use native.Mathlib.Omega.{arith}
-use mathlib.Core.Path.{_≡_, ap, _∙_}
+use mathlib.Core.Path.{_≡_, ap, _∙_, sym}
 use Rattle.fields.proofs.FieldLaws.{field-lt}
 use Rattle.fields.specs.Bits.{fieldAt}
 use Rattle.task.specs.Loops.{tab, over}
+use Rattle.task.proofs.LoopLaws.{over-none, over-set, over-end}
 use Rattle.sheets.specs.Holding.{unused}
 use Rattle.unpack.specs.Unpacking.{tenthsOn}
-use Rattle.unpack.proofs.UnpackLaws.{begun, grown, ended}
+use Rattle.unpack.proofs.UnpackLaws.{unused-length}
 use borrow.Author.Needs.{needs}
 use Rattle.unpack.proofs.costs.Statement.{statement}
 use Rattle.unpack.proofs.costs.Tie as tie
@@ -26,7 +27,7 @@ abbrev μ-loop : tie.MeasureT-loop
 loop-holds : tie.Need-loop-holds Inv-loop μ-loop
 unfolding unused
 loop-holds c =
-    (omega arith, begun _ 128 0)
+    (omega arith, sym (over-none _ _))
 
 model-bits-requires : tie.Need-model-bits-requires Inv-loop μ-loop
 model-bits-requires c κs = search needs
@@ -55,12 +56,12 @@ unfolding tenthsOn
 loop-again c =
     let a = c .before .before .before .before .before .args in
     let l = c .before .before .before .loop in
-    (omega arith, grown (tenthsOn (a .s .now) (a .n)) 128 0 (l .j) (omega arith) (l .inv .1) (c .field .ensures ∙ ap (λ (x : ℕ). fieldAt (a .s .now) x 16) (c .before .model-bits .ensures .0)))
+    (omega arith, over-set (tenthsOn (a .s .now) (a .n)) (l .j) _ (l .t) (unused 128 0) (l .inv .1) (omega (arith, unused-length {A = ℕ} 128 0)) (c .field .ensures ∙ ap (λ (x : ℕ). fieldAt (a .s .now) x 16) (c .before .model-bits .ensures .0)))
 
 returns : tie.Need-returns Inv-loop μ-loop
 returns c =
     let l = c .before .loop in
-    ended _ 128 0 (l .j) (c .before .before .before .args .m) (omega arith) (omega arith) (l .inv .1)
+    over-end _ _ (l .j) (c .before .before .before .args .m) (omega arith) (omega arith) (l .inv .1)
 
 pub costs-spec : {M : Type 1} → statement M
 costs-spec =

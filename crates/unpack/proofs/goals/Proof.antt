@@ -1,12 +1,13 @@
 use Prim.Native.Nat.{ℕ, _+_, _-_, _≤_}
 use native.Mathlib.Omega.{arith}
-use mathlib.Core.Path.{_≡_, ap}
+use mathlib.Core.Path.{_≡_, ap, sym}
 use Rattle.fields.proofs.FieldLaws.{field-lt, read-at}
 use Rattle.task.specs.Tables.{mark}
 use Rattle.task.specs.Loops.{tab, over}
+use Rattle.task.proofs.LoopLaws.{over-none, over-set, over-end}
 use Rattle.sheets.specs.Holding.{unused}
 use Rattle.unpack.specs.Unpacking.{goalOn}
-use Rattle.unpack.proofs.UnpackLaws.{begun, grown, ended}
+use Rattle.unpack.proofs.UnpackLaws.{unused-length}
 use borrow.Author.Needs.{needs}
 use Rattle.unpack.proofs.goals.Statement.{statement}
 use Rattle.unpack.proofs.goals.Tie as tie
@@ -25,7 +26,7 @@ abbrev μ-loop : tie.MeasureT-loop
 loop-holds : tie.Need-loop-holds Inv-loop μ-loop
 unfolding unused
 loop-holds c =
-    (omega arith, begun _ 16 (mark 0))
+    (omega arith, sym (over-none _ _))
 
 column-bits-requires : tie.Need-column-bits-requires Inv-loop μ-loop
 column-bits-requires c κs = search needs
@@ -57,12 +58,12 @@ unfolding goalOn
 loop-again c =
     let l = c .before .before .before .loop in
     let s = c .before .before .before .before .before .args .s .now in
-    (omega arith, grown (goalOn s) 16 (mark 0) (l .i) (omega arith) (l .inv .1) (ap mark (read-at s 6 (ap (λ (x : ℕ). x + 6 + 5) (c .before .column-bits .ensures .0)) (c .field .ensures))))
+    (omega arith, over-set (goalOn s) (l .i) _ (l .t) (unused 16 (mark 0)) (l .inv .1) (omega (arith, unused-length 16 (mark 0))) (ap mark (read-at s 6 (ap (λ (x : ℕ). x + 6 + 5) (c .before .column-bits .ensures .0)) (c .field .ensures))))
 
 returns : tie.Need-returns Inv-loop μ-loop
 returns c =
     let l = c .before .loop in
-    ended _ 16 (mark 0) (l .i) (c .before .before .before .args .n) (omega arith) (omega arith) (l .inv .1)
+    over-end _ _ (l .i) (c .before .before .before .args .n) (omega arith) (omega arith) (l .inv .1)
 
 pub goals-spec : {M : Type 1} → statement M
 goals-spec =

@@ -1,11 +1,12 @@
 use Prim.Native.Nat.{_*_, _-_, _≤_}
 use native.Mathlib.Omega.{arith}
-use mathlib.Core.Path.{_≡_}
+use mathlib.Core.Path.{_≡_, sym}
 use Rattle.task.specs.Tables.{mark}
 use Rattle.task.specs.Loops.{tab, over}
+use Rattle.task.proofs.LoopLaws.{over-none, over-set, over-end}
 use Rattle.sheets.specs.Holding.{unused, markPlace, markTable}
 use Rattle.unpack.specs.Unpacking.{markOn}
-use Rattle.unpack.proofs.UnpackLaws.{begun, grown, ended}
+use Rattle.unpack.proofs.UnpackLaws.{unused-length}
 use borrow.Author.Needs.{needs}
 use Rattle.unpack.proofs.marks.Statement.{statement}
 use Rattle.unpack.proofs.marks.Tie as tie
@@ -27,7 +28,7 @@ mul-end c = search needs
 loop-holds : tie.Need-loop-holds Inv-loop μ-loop
 unfolding unused
 loop-holds c =
-    (omega arith, begun _ 2048 (mark 0))
+    (omega arith, sym (over-none _ _))
 
 mark-at-requires : tie.Need-mark-at-requires Inv-loop μ-loop
 mark-at-requires c κs = search needs
@@ -45,14 +46,14 @@ loop-again : tie.Need-loop-again Inv-loop μ-loop
 loop-again c =
     let a = c .before .before .before .before .args in
     let l = c .before .before .loop in
-    (omega arith, grown (markPlace (markOn (a .s .now) (a .n) (a .skip)) (a .n)) 2048 (mark 0) (l .k) (omega arith) (l .inv .1) (c .mark-at .ensures))
+    (omega arith, over-set (markPlace (markOn (a .s .now) (a .n) (a .skip)) (a .n)) (l .k) _ (l .t) (unused 2048 (mark 0)) (l .inv .1) (omega (arith, unused-length 2048 (mark 0))) (c .mark-at .ensures))
 
 returns : tie.Need-returns Inv-loop μ-loop
 unfolding markTable
 returns c =
     let a = c .before .before .before .args in
     let l = c .before .loop in
-    ended _ 2048 (mark 0) (l .k) (a .m * 16) (omega arith) (omega arith) (l .inv .1)
+    over-end _ _ (l .k) (a .m * 16) (omega arith) (omega arith) (l .inv .1)
 
 pub marks-spec : {M : Type 1} → statement M
 marks-spec =

@@ -1,11 +1,12 @@
-use Prim.Native.Nat.{_-_, _≤_}
+use Prim.Native.Nat.{ℕ, _-_, _≤_}
 use native.Mathlib.Omega.{arith}
-use mathlib.Core.Path.{_≡_}
+use mathlib.Core.Path.{_≡_, sym}
 use Rattle.fields.proofs.FieldLaws.{field-lt, read-at}
 use Rattle.task.specs.Loops.{tab, over}
+use Rattle.task.proofs.LoopLaws.{over-none, over-set, over-end}
 use Rattle.sheets.specs.Holding.{unused}
 use Rattle.unpack.specs.Unpacking.{sizeOn}
-use Rattle.unpack.proofs.UnpackLaws.{begun, grown, ended}
+use Rattle.unpack.proofs.UnpackLaws.{unused-length}
 use borrow.Author.Needs.{needs}
 use Rattle.unpack.proofs.sizes.Statement.{statement}
 use Rattle.unpack.proofs.sizes.Tie as tie
@@ -24,7 +25,7 @@ abbrev μ-loop : tie.MeasureT-loop
 loop-holds : tie.Need-loop-holds Inv-loop μ-loop
 unfolding unused
 loop-holds c =
-    (omega arith, begun _ 16 0)
+    (omega arith, sym (over-none _ _))
 
 column-bits-requires : tie.Need-column-bits-requires Inv-loop μ-loop
 column-bits-requires c κs = search needs
@@ -50,12 +51,12 @@ unfolding sizeOn
 loop-again c =
     let l = c .before .before .before .loop in
     let s = c .before .before .before .before .before .args .s .now in
-    (omega arith, grown (sizeOn s) 16 0 (l .i) (omega arith) (l .inv .1) (read-at s 6 (c .before .column-bits .ensures .0) (c .field .ensures)))
+    (omega arith, over-set (sizeOn s) (l .i) _ (l .t) (unused 16 0) (l .inv .1) (omega (arith, unused-length {A = ℕ} 16 0)) (read-at s 6 (c .before .column-bits .ensures .0) (c .field .ensures)))
 
 returns : tie.Need-returns Inv-loop μ-loop
 returns c =
     let l = c .before .loop in
-    ended _ 16 0 (l .i) (c .before .before .before .args .n) (omega arith) (omega arith) (l .inv .1)
+    over-end _ _ (l .i) (c .before .before .before .args .n) (omega arith) (omega arith) (l .inv .1)
 
 pub sizes-spec : {M : Type 1} → statement M
 sizes-spec =

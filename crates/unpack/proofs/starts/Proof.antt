@@ -1,12 +1,13 @@
 use Prim.Native.Nat.{ℕ, _+_, _-_, _≤_}
 use native.Mathlib.Omega.{arith}
-use mathlib.Core.Path.{_≡_, ap}
+use mathlib.Core.Path.{_≡_, ap, sym}
 use Rattle.fields.proofs.FieldLaws.{field-lt, read-at}
 use Rattle.task.specs.Task.{position}
 use Rattle.task.specs.Loops.{tab, over}
+use Rattle.task.proofs.LoopLaws.{over-none, over-set, over-end}
 use Rattle.sheets.specs.Holding.{unused}
 use Rattle.unpack.specs.Unpacking.{startOn}
-use Rattle.unpack.proofs.UnpackLaws.{begun, grown, ended}
+use Rattle.unpack.proofs.UnpackLaws.{unused-length}
 use borrow.Author.Needs.{needs}
 use Rattle.unpack.proofs.starts.Statement.{statement}
 use Rattle.unpack.proofs.starts.Tie as tie
@@ -25,7 +26,7 @@ abbrev μ-loop : tie.MeasureT-loop
 loop-holds : tie.Need-loop-holds Inv-loop μ-loop
 unfolding unused
 loop-holds c =
-    (omega arith, begun _ 16 (position 0))
+    (omega arith, sym (over-none _ _))
 
 column-bits-requires : tie.Need-column-bits-requires Inv-loop μ-loop
 column-bits-requires c κs = search needs
@@ -54,12 +55,12 @@ unfolding startOn
 loop-again c =
     let l = c .before .before .before .loop in
     let s = c .before .before .before .before .before .args .s .now in
-    (omega arith, grown (startOn s) 16 (position 0) (l .i) (omega arith) (l .inv .1) (ap position (read-at s 5 (ap (λ (x : ℕ). x + 6) (c .before .column-bits .ensures .0)) (c .field .ensures))))
+    (omega arith, over-set (startOn s) (l .i) _ (l .t) (unused 16 (position 0)) (l .inv .1) (omega (arith, unused-length 16 (position 0))) (ap position (read-at s 5 (ap (λ (x : ℕ). x + 6) (c .before .column-bits .ensures .0)) (c .field .ensures))))
 
 returns : tie.Need-returns Inv-loop μ-loop
 returns c =
     let l = c .before .loop in
-    ended _ 16 (position 0) (l .i) (c .before .before .before .args .n) (omega arith) (omega arith) (l .inv .1)
+    over-end _ _ (l .i) (c .before .before .before .args .n) (omega arith) (omega arith) (l .inv .1)
 
 pub starts-spec : {M : Type 1} → statement M
 starts-spec =

@@ -3,7 +3,7 @@ use mathlib.Core.Path.{refl, ap}
 use Rattle.sheets.specs.LentTables.{columnIn}
 use Rattle.sheets.specs.ModelSheet.{columnPart}
 use Rattle.fields.specs.Packing.{packed}
-use Rattle.writing.proofs.WritingLaws.{put-next}
+use Rattle.fields.proofs.PackingLaws.{put-next}
 use borrow.Author.Needs.{needs}
 use Rattle.writing.proofs.put.put_column.Statement.{statement}
 use Rattle.writing.proofs.put.put_column.Tie as tie

@@ -1,7 +1,7 @@
 use mathlib.Core.Path.{refl}
 use Rattle.sheets.specs.ModelSheet.{headerPart}
 use Rattle.fields.specs.Packing.{packed}
-use Rattle.writing.proofs.WritingLaws.{put-next}
+use Rattle.fields.proofs.PackingLaws.{put-next}
 use borrow.Author.Needs.{needs}
 use Rattle.writing.proofs.put.put_header.Statement.{statement}
 use Rattle.writing.proofs.put.put_header.Tie as tie

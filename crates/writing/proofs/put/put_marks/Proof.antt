@@ -1,4 +1,5 @@
-use Rattle.writing.proofs.WritingLaws.{put-next, row-le}
+use Rattle.fields.proofs.PackingLaws.{put-next}
+use Rattle.writing.proofs.WritingLaws.{row-le}
 use Rattle.fields.specs.Packing.{packed}
 use Rattle.sheets.specs.ModelSheet.{marksPart}
 use Rattle.sheets.specs.LentTables.{marksIn}

@@ -8,7 +8,7 @@ use Rattle.fields.specs.Judging.{each}
 use Rattle.sheets.specs.LentTables.{columnIn, marksIn}
 use Rattle.sheets.specs.ModelSheet.{modelBits, marksPart, stepPart}
 use Rattle.fields.specs.Packing.{packed}
-use Rattle.writing.proofs.WritingLaws.{put-next}
+use Rattle.fields.proofs.PackingLaws.{put-next}
 use borrow.Author.Needs.{needs}
 use Rattle.writing.proofs.put.put_step.Statement.{statement}
 use Rattle.writing.proofs.put.put_step.Tie as tie

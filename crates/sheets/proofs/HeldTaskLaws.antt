@@ -6,7 +6,7 @@ use mathlib.Core.Path.{_≡_, refl, sym, ap, ap₂, _∙_, subst}
 use mathlib.Core.List.{List}
 use mathlib.Core.Option.{Option, none, some}
 use lib.ListN.{getD, List·getD-eq-default}
-use borrow.Author.Tests.{lt-ltb, eq-eqb}
+use borrow.Author.Tests.{lt-ltb}
 use Rattle.task.specs.declared.Column.{Column}
 use Rattle.task.specs.declared.Position.{Position}
 use Rattle.task.specs.declared.Step.{Step}
@@ -16,11 +16,11 @@ use Rattle.task.specs.Tables.{mark, marked, columnEntry, changeEntry, stepEntry
 use Rattle.task.proofs.LoopLaws.{tab-at, tab-length, tab-ext, over-at}
 use Rattle.fields.specs.Judging.{Field}
 use Rattle.fields.proofs.FieldLaws.{field-lt}
+use Rattle.fields.proofs.PlaceLaws.{same-field}
 use Rattle.fields.proofs.PutLaws.{Bytes}
 use Rattle.sheets.specs.ModelSheet.{Source, MarkFields, columnsIn, stepsIn, entries, fieldsPart, modelBits, columnsOf, costOn, sheetWith, ofSheet, judgeSheet}
 use Rattle.sheets.specs.Holding.{columnSaid, changeSaid, stepSaid, taskIn, unused, markPlace, markTable, modelOf}
-use Rattle.sheets.proofs.RoundLaws.{Fine, Same, same-fields, same-field, same-sheets, own-fine}
-use Rattle.unpack.specs.Unpacking.{unpacked}
+use Rattle.sheets.proofs.RoundLaws.{Fine, Same, same-fields, same-sheets, own-fine}
 
 -- ---- the model by value is the task that the fields say
 table-at : (f : ℕ → ℕ → ℕ) (n m j i : ℕ) → n ≤ 16 → j < m → i < n → getD (markTable f n m) (j * 16 + i) (mark 0) ≡ mark (f j i)
@@ -142,7 +142,7 @@ module _ (s : List ℕ) (ok : judgeSheet s ≡ 0) where
   abbrev T : Task
   T = taskIn (ofSheet s)
 
-  ok-fine : Fine P (columnsIn P) (stepsIn P)
+  pub ok-fine : Fine P (columnsIn P) (stepsIn P)
   unfolding ofSheet sheetWith
   ok-fine = own-fine s ok
 
@@ -178,14 +178,6 @@ module _ (s : List ℕ) (ok : judgeSheet s ≡ 0) where
       tenths-of : (t : Step) → Dec (t .0 < stepsIn P) → costOf T t ≤ 65535
       tenths-of t (yes l) = omega (arith, cost-said P t l, tenths-lt (t .0))
       tenths-of t (no l) = omega (arith, cost-past P t (omega arith))
-
-  -- the model that is read is that task, and is accepted
-  pub read-task : taskOf (unpacked s .model) ≡ T
-  unfolding unpacked
-  read-task = simp (eq-eqb (judgeSheet s) 0 ok) (model-task P (ok-fine .header .columns))
-
-  pub read-accepted : Accepted (taskOf (unpacked s .model))
-  read-accepted = subst (λ (t : Task). Accepted t) (sym read-task) accepted-task
 
 -- ---- two accepted sheets of the same task are the same bytes
 module _ (s t : List ℕ) (oks : judgeSheet s ≡ 0) (okt : judgeSheet t ≡ 0) (e : taskIn (ofSheet s) ≡ taskIn (ofSheet t)) where
