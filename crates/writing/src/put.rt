@@ -1,10 +1,10 @@
 // Putting the fields of lent tables into lent bytes, in sheet order.
 ghost use mathlib.Core.Path.{_≡_};
-ghost use Prim.Native.Nat.{_+_, _*_, _≤_, _<_};
+ghost use Prim.Native.Nat.{ℕ, _+_, _*_, _≤_, _<_};
 ghost use Rattle.task.specs.Sizes.{limits};
 ghost use Rattle.fields.specs.Judging.{given, inTable, each};
 ghost use Rattle.fields.specs.Packing.{packed};
-ghost use Rattle.sheets.specs.ModelSheet.{columnBits, modelBits, headerPart, columnPart, marksPart, stepPart, entries};
+ghost use Rattle.sheets.specs.ModelSheet.{ColumnFields, columnBits, modelBits, headerPart, columnPart, marksPart, stepPart, entries};
 ghost use Rattle.sheets.specs.LentTables.{columnIn, marksIn, ofTables};
 use fields::place::place;
 use fields::place::wide_place;
@@ -42,10 +42,11 @@ fn put_columns(out: &mut [u8], frame: &[u8], n: usize)
     }
 }
 
-// The marks of step j at column i.
-fn put_marks(out: &mut [u8], frame: &[u8], marks: &[u8], n: usize, j: usize, i: usize)
+// The marks of step j at column i. What is put does not depend on the columns' own fields, by which marks are judged.
+fn put_marks(out: &mut [u8], marks: &[u8], n: usize, j: usize, i: usize)
     requires { ⌜ (n ≤ limits .columns) × (j < limits .steps) × (i < limits .columns) ⌝ }
-    ensures { λ _. ⌜ now (out .exit) ≡ packed (modelBits n j + 16 + i * 12) (marksPart (columnIn (now (frame .entry))) (marksIn (now (marks .entry)) n) j i) (now (out .entry)) ⌝ }
+    ensures { λ _. ⌜ ((c : ℕ → ColumnFields)
+        → now (out .exit) ≡ packed (modelBits n j + 16 + i * 12) (marksPart c (marksIn (now (marks .entry)) n) j i) (now (out .entry))) ⌝ }
 {
     let need = model_bits(n, j) + 16 + i * 12;
     let effect = need + 6;
@@ -54,25 +55,27 @@ fn put_marks(out: &mut [u8], frame: &[u8], marks: &[u8], n: usize, j: usize, i: 
     put_field(out, effect, 6, place(marks, row + 1));
 }
 
-fn put_step(out: &mut [u8], frame: &[u8], costs: &[u16], marks: &[u8], n: usize, j: usize)
+fn put_step(out: &mut [u8], costs: &[u16], marks: &[u8], n: usize, j: usize)
     requires { ⌜ (n ≤ limits .columns) × (j < limits .steps) ⌝ }
-    ensures { λ _. ⌜ now (out .exit) ≡ packed (modelBits n j) (stepPart (columnIn (now (frame .entry))) (inTable (now (costs .entry))) (marksIn (now (marks .entry)) n) n j) (now (out .entry)) ⌝ }
+    ensures { λ _. ⌜ ((c : ℕ → ColumnFields)
+        → now (out .exit) ≡ packed (modelBits n j) (stepPart c (inTable (now (costs .entry))) (marksIn (now (marks .entry)) n) n j) (now (out .entry))) ⌝ }
 {
     put_field(out, model_bits(n, j), 16, wide_place(costs, j));
     let mut i: usize = 0;
     while i < n {
-        put_marks(out, frame, marks, n, j, i);
+        put_marks(out, marks, n, j, i);
         i += 1;
     }
 }
 
-fn put_steps(out: &mut [u8], frame: &[u8], costs: &[u16], marks: &[u8], n: usize, m: usize)
+fn put_steps(out: &mut [u8], costs: &[u16], marks: &[u8], n: usize, m: usize)
     requires { ⌜ (n ≤ limits .columns) × (m ≤ limits .steps) ⌝ }
-    ensures { λ _. ⌜ now (out .exit) ≡ packed (columnBits n) (each m (stepPart (columnIn (now (frame .entry))) (inTable (now (costs .entry))) (marksIn (now (marks .entry)) n) n)) (now (out .entry)) ⌝ }
+    ensures { λ _. ⌜ ((c : ℕ → ColumnFields)
+        → now (out .exit) ≡ packed (columnBits n) (each m (stepPart c (inTable (now (costs .entry))) (marksIn (now (marks .entry)) n) n)) (now (out .entry))) ⌝ }
 {
     let mut j: usize = 0;
     while j < m {
-        put_step(out, frame, costs, marks, n, j);
+        put_step(out, costs, marks, n, j);
         j += 1;
     }
 }
@@ -83,7 +86,7 @@ pub fn put_sheet(out: &mut [u8], n: usize, m: usize, frame: &[u8], costs: &[u16]
 {
     put_header(out, n, m);
     put_columns(out, frame, n);
-    put_steps(out, frame, costs, marks, n, m);
+    put_steps(out, costs, marks, n, m);
     let bits = model_bits(n, m);
     put_field(out, bits, (8 - bits % 8) % 8, 0);
 }

@@ -35,7 +35,7 @@ mul-row c = search needs
 
 mul-row-2 : tie.Need-mul-row-2
 mul-row-2 c =
-    let a = c .before .before .before .before .args in
+    let a = c .before .before .before .args in
     omega (arith, row-le (a .n) (a .j) (omega arith) (omega arith))
 
 mul-row-3 : tie.Need-mul-row-3
@@ -43,7 +43,7 @@ mul-row-3 c = search needs
 
 add-row : tie.Need-add-row
 add-row c =
-    let a = c .before .before .before .before .args in
+    let a = c .before .before .before .args in
     omega (arith, row-le (a .n) (a .j) (omega arith) (omega arith))
 
 place-requires : tie.Need-place-requires
@@ -54,7 +54,7 @@ put-field-requires c κs = search needs
 
 add-place : tie.Need-add-place
 add-place c =
-    let a = c .before .before .before .before .before .before .before .before .before .before .args in
+    let a = c .before .before .before .before .before .before .before .before .before .args in
     omega (arith, row-le (a .n) (a .j) (omega arith) (omega arith))
 
 place-requires-2 : tie.Need-place-requires-2
@@ -69,9 +69,14 @@ same-length c = search needs
 returns : tie.Need-returns
 unfolding packed marksPart marksIn
 returns c =
-    let a = c .before .before .before .before .before .before .before .before .before .before .before .before .before .before .args in
-    let q = c .before .before .before .before .before .before .before .before .before .before .model-bits .ensures .0 in
-    put-next 6 (c .before .before .put-field2 .ensures) (ap (λ (x : ℕ). x + 16 + a .i * 12 + 6) q) (c .before .before .before .place2 .ensures) (put-next 6 (c .before .before .before .before .before .before .before .put-field .ensures) (ap (λ (x : ℕ). x + 16 + a .i * 12) q) (c .before .before .before .before .before .before .before .before .place .ensures) refl)
+    let effect = c .before .before in
+    let need = effect .before .before .before .before .before in
+    let bits = need .before .before .before in
+    let i = bits .before .before .before .args .i in
+    let q = bits .model-bits .ensures .0 in
+    λ f.
+    put-next 6 (effect .put-field2 .ensures) (ap (λ (x : ℕ). x + 16 + i * 12 + 6) q) (effect .before .place2 .ensures)
+    (put-next 6 (need .put-field .ensures) (ap (λ (x : ℕ). x + 16 + i * 12) q) (need .before .place .ensures) refl)
 
 pub put-marks-spec : {M : Type 1} → statement M
 put-marks-spec =

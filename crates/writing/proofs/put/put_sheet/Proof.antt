@@ -1,3 +1,4 @@
+use Rattle.sheets.specs.LentTables.{columnIn}
 use Rattle.writing.proofs.WritingLaws.{parts-put}
 use borrow.Author.Needs.{needs}
 use Rattle.writing.proofs.put.put_sheet.Statement.{statement}
@@ -33,8 +34,13 @@ same-length c = search needs
 
 returns : tie.Need-returns
 returns c =
-    let a = c .before .before .before .before .before .before .before .before .before .before .before .before .before .before .before .before .before .before .before .before .before .args in
-    parts-put (a .n) (a .m) (a .frame .now) (a .costs .now) (a .marks .now) (a .out .now) (c .before .before .before .before .before .before .before .before .before .before .before .before .before .before .before .put-header .ensures) (c .before .before .before .before .before .before .before .before .before .before .before .put-columns .ensures) (c .before .before .before .before .before .before .before .put-steps .ensures) (c .before .before .before .before .model-bits .ensures .0) (c .before .before .put-field .ensures)
+    let fill = c .before .before in
+    let steps = fill .before .before .before .before .before in
+    let columns = steps .before .before .before .before in
+    let header = columns .before .before .before .before in
+    let a = header .before .before .before .before .before .before .args in
+    parts-put (a .n) (a .m) (a .frame .now) (a .costs .now) (a .marks .now) (a .out .now) (header .put-header .ensures) (columns .put-columns .ensures) (steps .put-steps .ensures (columnIn (a .frame .now)))
+    (fill .before .before .model-bits .ensures .0) (fill .put-field .ensures)
 
 pub put-sheet-spec : {M : Type 1} → statement M
 put-sheet-spec =

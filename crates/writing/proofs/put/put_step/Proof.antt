@@ -1,12 +1,13 @@
 use lib.ListN.{length}
 use Rattle.sheets.proofs.HoldLaws.{marks-bits}
 use Rattle.fields.proofs.PackingLaws.{packed-none, packed-more, packed-end, packed-length}
-use Prim.Native.Nat.{_+_, _-_, _≤_}
+use Prim.Native.Nat.{ℕ, _+_, _-_, _≤_}
 use native.Mathlib.Omega.{arith}
 use mathlib.Core.Path.{_≡_, refl, ap, _∙_}
+use mathlib.Core.List.{[]}
 use Rattle.fields.specs.Judging.{each}
 use Rattle.sheets.specs.LentTables.{columnIn, marksIn}
-use Rattle.sheets.specs.ModelSheet.{modelBits, marksPart, stepPart}
+use Rattle.sheets.specs.ModelSheet.{ColumnFields, modelBits, marksPart, stepPart}
 use Rattle.fields.specs.Packing.{packed}
 use Rattle.fields.proofs.PackingLaws.{put-next}
 use borrow.Author.Needs.{needs}
@@ -20,11 +21,11 @@ use Rattle.sheets.proofs.model_bits.Reads as model-bits-reads
 use Rattle.writing.proofs.put.put_marks.Reads as put-marks-reads
 
 abbrev Inv-loop : tie.InvT-loop
-Inv-loop out₀ frame costs marks n j i₀ out i =
-    (i ≤ n) × (out ≡ packed (modelBits n j + 16) (each i (marksPart (columnIn frame) (marksIn marks n) j)) out₀)
+Inv-loop out₀ costs marks n j i₀ out i =
+    (i ≤ n) × ((f : ℕ → ColumnFields) → out ≡ packed (modelBits n j + 16) (each i (marksPart f (marksIn marks n) j)) out₀)
 
 abbrev μ-loop : tie.MeasureT-loop
-μ-loop out₀ frame costs marks n j i₀ out i =
+μ-loop out₀ costs marks n j i₀ out i =
     n - i
 
 model-bits-requires : tie.Need-model-bits-requires Inv-loop μ-loop
@@ -38,7 +39,7 @@ put-field-requires c κs = search needs
 
 loop-holds : tie.Need-loop-holds Inv-loop μ-loop
 loop-holds c =
-    (omega arith, packed-none _ _ _)
+    (omega arith, λ f. packed-none _ _ _)
 
 put-marks-requires : tie.Need-put-marks-requires Inv-loop μ-loop
 put-marks-requires c κs = search needs
@@ -51,20 +52,28 @@ loop-less c = search needs
 
 loop-again : tie.Need-loop-again Inv-loop μ-loop
 loop-again c =
-    let a = c .before .before .before .before .before .before .before .before .before .before .before .before .before .before .before .before .args in
-    let l = c .before .before .before .before .before .loop in
-    (omega arith, c .before .before .put-marks .ensures ∙ packed-more (marksPart (columnIn (a .frame .now)) (marksIn (a .marks .now) (a .n)) (a .j)) 12 (marks-bits (columnIn (a .frame .now)) (marksIn (a .marks .now) (a .n)) (a .j)) (modelBits (a .n) (a .j) + 16) (l .i) _ (l .inv .1))
+    let b = c .before .before .before .before .before in
+    let l = b .loop in
+    let a = b .before .before .before .before .before .before .before .before .before .before .args in
+    let k = marksIn (a .marks .now) (a .n) in
+    (omega arith, λ f. c .before .before .put-marks .ensures f ∙ packed-more (marksPart f k (a .j)) 12 (marks-bits f k (a .j)) (modelBits (a .n) (a .j) + 16) (l .i) _ (l .inv .1 f))
 
 same-length : tie.Need-same-length Inv-loop μ-loop
 same-length c =
-    ap length (c .before .loop .inv .1) ∙ packed-length _ _ _ ∙ c .before .before .before .before .put-field .kept .0
+    ap length (c .before .loop .inv .1 (columnIn [])) ∙ packed-length _ _ _ ∙ c .before .before .before .before .put-field .kept .0
 
 returns : tie.Need-returns Inv-loop μ-loop
 unfolding packed stepPart
 returns c =
-    let a = c .before .before .before .before .before .before .before .before .before .before .before .before .args in
+    let cost = c .before .before .before .before in
+    let bits = cost .before .before in
+    let a = bits .before .before .before .before .before .args in
     let l = c .before .loop in
-    packed-end (modelBits (a .n) (a .j) + 16) (marksPart (columnIn (a .frame .now)) (marksIn (a .marks .now) (a .n)) (a .j)) _ (l .i) (a .n) (omega arith) (omega arith) (l .inv .1) ∙ ap (packed (modelBits (a .n) (a .j) + 16) (each (a .n) (marksPart (columnIn (a .frame .now)) (marksIn (a .marks .now) (a .n)) (a .j)))) (put-next 16 (c .before .before .before .before .put-field .ensures) (c .before .before .before .before .before .before .model-bits .ensures .0) (c .before .before .before .before .before .wide-place .ensures) refl)
+    let at = modelBits (a .n) (a .j) + 16 in
+    let k = marksIn (a .marks .now) (a .n) in
+    λ f.
+    packed-end at (marksPart f k (a .j)) _ (l .i) (a .n) (omega arith) (omega arith) (l .inv .1 f)
+    ∙ ap (packed at (each (a .n) (marksPart f k (a .j)))) (put-next 16 (cost .put-field .ensures) (bits .model-bits .ensures .0) (cost .before .wide-place .ensures) refl)
 
 pub put-step-spec : {M : Type 1} → statement M
 put-step-spec =
