@@ -23,7 +23,7 @@ use Rattle.blocks.proofs.CutLaws.{blocks-more}
 use Rattle.blocks.proofs.FlatLaws.{blocks-length, cut-in-length, cut-made}
 use Rattle.cut_sheets.specs.CutPart.{CutFields, cutNamed, cutsNamed, cutHeader, cutPart, cutOn, cutBits, cutFields, cutEntries, countOf, cutPartWith, ofCutPart, cutEnd, judgeCutPart, cutChecks, judgeCuts}
 use Rattle.cut_sheets.specs.CutSheet.{cutLent}
-use Rattle.cut_sheets.specs.Judged.{Made, CutJudged, CutsJudged, PartJudged}
+use Rattle.cut_sheets.specs.Judged.{Made, CutJudged, CutsJudged, PartJudged, LentJudged}
 use Rattle.cut_sheets.proofs.CutPartLaws.{cuts-more, cuts-length}
 
 -- the cut that three values name
@@ -130,15 +130,23 @@ pub told : (t : Task) (f : ℕ → CutFields) (sets : List ℕ) (columns i : ℕ
 told t f sets columns i p h e m = sym (h t e ∙ ap₂ (λ (bs : Blocks) (c : Cut). cutOk t bs c) m p)
 
 pub judged-good : (f : ℕ → CutFields) (sets : List ℕ) (columns i : ℕ) {c : Cut} {r : Bool} → r ≡ true → c ≡ cutNamed (f i) → ((t : Task) → columnCount t ≡ columns → r ≡ cutOk t (blocksIn columns (i + 1) sets) c)
-    → CutJudged f columns i 0
-judged-good f sets columns i {c} q p h =
+    → ((t : Task) → columnCount t ≡ columns → Made t f columns i sets → 0 ≡ judged (cutPart t f i)) → CutJudged f columns i 0 sets
+judged-good f sets columns i {c} q p h j =
     let k = taken columns (i + 1) sets c (λ t e. sym q ∙ h t e) in
-    record { block = λ z. rw p at (k .0); column = λ z. rw p at (k .1) }
+    record { refusal = j; block = λ z. rw p at (k .0); column = λ z. rw p at (k .1) }
+
+pub judged-bad : (f : ℕ → CutFields) (sets : List ℕ) (columns i : ℕ) {r : ℕ} → (r ≡ 0 → ⊥) → ((t : Task) → columnCount t ≡ columns → Made t f columns i sets → r ≡ judged (cutPart t f i))
+    → CutJudged f columns i r sets
+judged-bad f sets columns i n j = record { refusal = j; block = λ z. absurd (n z); column = λ z. absurd (n z) }
+
+pub lent-bad : (cuts sets : List ℕ) (columns i : ℕ) {r : ℕ} → (r ≡ 0 → ⊥)
+    → ((t : Task) → columnCount t ≡ columns → Made t (cutLent cuts) columns i sets → r ≡ judged (cutPart t (cutLent cuts) i)) → LentJudged cuts columns i r sets
+lent-bad cuts sets columns i n j = record { place = λ z. absurd (n z); cut = judged-bad (cutLent cuts) sets columns i n j }
 
 -- ---- the loop
 
 -- a cut that was accepted is made: the array then holds the blocks of one cut more
-module _ (f : ℕ → CutFields) (sets : List ℕ) (columns i : ℕ) (wide : columns ≤ 16) (room : i < 255) (long : length sets ≡ 4096) {c : Cut} {r : ℕ} (p : c ≡ cutNamed (f i)) (z : r ≡ 0) (j : CutJudged f columns i r) where
+module _ (f : ℕ → CutFields) (sets : List ℕ) (columns i : ℕ) (wide : columns ≤ 16) (room : i < 255) (long : length sets ≡ 4096) {c : Cut} {r : ℕ} (p : c ≡ cutNamed (f i)) (z : r ≡ 0) (j : CutJudged f columns i r sets) where
   pub there : (c .block .0 < i + 1) × (c .column .0 < columns)
   there = rw p (j .block z, j .column z)
 
@@ -155,7 +163,7 @@ pub record Going (t : Task) (f : ℕ → CutFields) (columns i : ℕ) (sets : Li
   pub passed : judged (each i (cutPart t f)) ≡ 0
   pub made : Made t f columns i sets
 
-pub going-on : (t : Task) (f : ℕ → CutFields) (sets : List ℕ) (columns i : ℕ) {c : Cut} {r : ℕ} {next : List ℕ} → columns ≤ 16 → i < 255 → length sets ≡ 4096 → c ≡ cutNamed (f i) → r ≡ 0 → CutJudged f columns i r
+pub going-on : (t : Task) (f : ℕ → CutFields) (sets : List ℕ) (columns i : ℕ) {c : Cut} {r : ℕ} {next : List ℕ} → columns ≤ 16 → i < 255 → length sets ≡ 4096 → c ≡ cutNamed (f i) → r ≡ 0 → CutJudged f columns i r sets
     → r ≡ judged (cutPart t f i) → next ≡ cutIn columns (i + 1) c sets → Going t f columns i sets → Going t f columns (i + 1) next
 going-on t f sets columns i wide room long p z j e n g =
     record { passed = pass i (cutPart t f) (g .passed) e z; made = rw n (made-more f sets columns i wide room long p z j t (g .made)) }

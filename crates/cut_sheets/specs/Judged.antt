@@ -1,9 +1,10 @@
 -- What judging the cuts of a part leaves: its answer, and the blocks that the cuts made.
 use Prim.Native.Nat.{ℕ, _+_, _*_, _≤_, _<_}
-use lib.ListN.{length}
+use lib.ListN.{length, getD}
 use mathlib.Core.Path.{_≡_}
 use mathlib.Core.List.{List}
-use Rattle.task.specs.Task.{Task}
+use Rattle.task.specs.Sizes.{limits, mostSteps}
+use Rattle.task.specs.Task.{Task, columnCount}
 use Rattle.fields.specs.Judging.{judged, each}
 use Rattle.blocks.specs.Blocks.{blocksOf}
 use Rattle.blocks.specs.Flat.{blocksIn}
@@ -14,8 +15,9 @@ use Rattle.cut_sheets.specs.CutSheet.{cutLent}
 abbrev pub Made : Task → (ℕ → CutFields) → ℕ → ℕ → List ℕ → Type 0
 Made t c columns i sets = blocksIn columns (i + 1) sets ≡ blocksOf t (cutsNamed c i)
 
--- cut i was judged by the blocks so far; where it was accepted, its block and its column are there
-pub record CutJudged (c : ℕ → CutFields) (columns i r : ℕ) : Type 0 where
+-- cut i was judged by the blocks so far, of whatever task; where it was accepted, its block and its column are there
+pub record CutJudged (c : ℕ → CutFields) (columns i r : ℕ) (sets : List ℕ) : Type 0 where
+  pub refusal : (t : Task) → columnCount t ≡ columns → Made t c columns i sets → r ≡ judged (cutPart t c i)
   pub block : r ≡ 0 → cutNamed (c i) .block .0 < i + 1
   pub column : r ≡ 0 → cutNamed (c i) .column .0 < columns
 
@@ -30,6 +32,13 @@ pub record PartJudged (judge : Task → List ℕ → ℕ) (t : Task) (s : List �
   pub made : r ≡ 0 → Made t (cutOn s) columns (countOf s) sets
 
 -- cut i of a lent list was judged; where it was accepted, its place is there
-pub record LentJudged (cuts : List ℕ) (columns i r : ℕ) : Type 0 where
+pub record LentJudged (cuts : List ℕ) (columns i r : ℕ) (sets : List ℕ) : Type 0 where
   pub place : r ≡ 0 → i * 3 + 3 ≤ length cuts
-  pub cut : CutJudged (cutLent cuts) columns i r
+  pub cut : CutJudged (cutLent cuts) columns i r sets
+
+-- cut i of a lent list can be read: its place is there, and its block and its column are within the limits
+pub record Readable (cuts : List ℕ) (i : ℕ) : Type 0 where
+  pub cut : i < mostSteps
+  pub place : i * 3 + 3 ≤ length cuts
+  pub block : getD cuts (i * 3) 0 < limits .blocks
+  pub column : getD cuts (i * 3 + 1) 0 < limits .columns

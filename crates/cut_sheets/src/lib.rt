@@ -9,7 +9,7 @@ ghost use Rattle.fields.specs.Judging.{judged};
 ghost use Rattle.cut_sheets.specs.CutPart.{cutNamed, cutPart, cutBits, mostCutBits, cutBytes, countOf, cutOn, cutEnd};
 ghost use Rattle.cut_sheets.specs.CutPart.{judgeCutPart, judgeCuts};
 ghost use Rattle.cut_sheets.specs.CutSheet.{cutLent};
-ghost use Rattle.cut_sheets.specs.Judged.{Made, CutJudged, CutsJudged, PartJudged, LentJudged};
+ghost use Rattle.cut_sheets.specs.Judged.{Made, CutJudged, CutsJudged, PartJudged, LentJudged, Readable};
 use blocks::Cut;
 use cutting::cut_ok;
 use cutting::make_cut;
@@ -70,7 +70,7 @@ fn read_cut(s: &[u8], i: usize) -> Cut
 // Cut i: 1 where its three fields are not there, 9 where the blocks so far do not take it, else 0.
 fn judge_cut(s: &[u8], i: usize, columns: usize, sets: &BlockSets) -> u8
     requires { ⌜ (i + 1 < limits .blocks) × (columns ≤ limits .columns) ⌝ }
-    ensures { λ r. ⌜ CutJudged (cutOn (now (s .entry))) columns i r × ((t : Task) → columnCount t ≡ columns → Made t (cutOn (now (s .entry))) columns i (now (sets .entry)) → r ≡ judged (cutPart t (cutOn (now (s .entry))) i)) ⌝ }
+    ensures { λ r. ⌜ CutJudged (cutOn (now (s .entry))) columns i r (now (sets .entry)) ⌝ }
 {
     if s.len() < (cut_bits(i + 1) + 7) / 8 {
         return 1;
@@ -83,8 +83,9 @@ fn judge_cut(s: &[u8], i: usize, columns: usize, sets: &BlockSets) -> u8
 
 // The cuts of a part, each judged by the blocks that those before it made, and made in turn. At first the array holds block 0.
 fn judge_cuts(s: &[u8], count: usize, columns: usize, sets: &mut BlockSets) -> u8
-    requires { ⌜ (count < limits .blocks) × (columns ≤ limits .columns) × (length (now sets) ≡ limits .blocks * limits .columns) ⌝ }
-    ensures { λ r. ⌜ ((t : Task) → columnCount t ≡ columns → Made t (cutOn (now (s .entry))) columns 0 (now (sets .entry)) → CutsJudged t (cutOn (now (s .entry))) columns count r (now (sets .exit))) ⌝ }
+    requires { ⌜ (count < limits .blocks) × (columns ≤ limits .columns) × (length (now sets) ≡ blockPlaces) ⌝ }
+    ensures { λ r. ⌜ ((t : Task) → columnCount t ≡ columns → Made t (cutOn (now (s .entry))) columns 0 (now (sets .entry))
+        → CutsJudged t (cutOn (now (s .entry))) columns count r (now (sets .exit))) ⌝ }
 {
     let mut i: usize = 0;
     while i < count {
@@ -100,7 +101,7 @@ fn judge_cuts(s: &[u8], count: usize, columns: usize, sets: &mut BlockSets) -> u
 
 // The refusal of the cut part at the front of s, whatever follows; 0 for none, and the array then holds the blocks of its cuts.
 pub fn judge_cut_part(s: &[u8], columns: usize, sets: &mut BlockSets) -> u8
-    requires { ⌜ (columns ≤ limits .columns) × (length (now sets) ≡ limits .blocks * limits .columns) ⌝ }
+    requires { ⌜ (columns ≤ limits .columns) × (length (now sets) ≡ blockPlaces) ⌝ }
     ensures { λ r. ⌜ ((t : Task) → columnCount t ≡ columns → Made t (cutOn (now (s .entry))) columns 0 (now (sets .entry))
         → PartJudged judgeCutPart t (now (s .entry)) columns r (now (sets .exit))) ⌝ }
 {
@@ -136,7 +137,7 @@ pub fn judge_cut_tail(s: &[u8], columns: usize, sets: &mut BlockSets) -> u8
 
 // Cut i of a lent list, whose numbers are within the limits.
 fn lent_cut(cuts: &[u32], i: usize) -> Cut
-    requires { ⌜ (i + 1 < limits .blocks) × (i * 3 + 3 ≤ length (now cuts)) × (getD (now cuts) (i * 3) 0 < limits .blocks) × (getD (now cuts) (i * 3 + 1) 0 < limits .columns) ⌝ }
+    requires { ⌜ Readable (now cuts) i ⌝ }
     ensures { λ r. ⌜ r ≡ cutNamed (cutLent (now (cuts .entry)) i) ⌝ }
 {
     let block = cuts[i * 3];
@@ -152,7 +153,7 @@ fn lent_cut(cuts: &[u32], i: usize) -> Cut
 // Cut i of a lent list, as judge_cut judges one of a part. A number that has no room in its field names nothing that is there.
 fn judge_lent_cut(cuts: &[u32], i: usize, columns: usize, sets: &BlockSets) -> u8
     requires { ⌜ (i + 1 < limits .blocks) × (columns ≤ limits .columns) ⌝ }
-    ensures { λ r. ⌜ LentJudged (now (cuts .entry)) columns i r × ((t : Task) → columnCount t ≡ columns → Made t (cutLent (now (cuts .entry))) columns i (now (sets .entry)) → r ≡ judged (cutPart t (cutLent (now (cuts .entry))) i)) ⌝ }
+    ensures { λ r. ⌜ LentJudged (now (cuts .entry)) columns i r (now (sets .entry)) ⌝ }
 {
     if cuts.len() < i * 3 + 3 {
         return 1;
@@ -171,8 +172,9 @@ fn judge_lent_cut(cuts: &[u32], i: usize, columns: usize, sets: &BlockSets) -> u
 
 // The cuts of a lent list, as judge_cuts judges those of a part.
 pub fn judge_lent_cuts(cuts: &[u32], count: usize, columns: usize, sets: &mut BlockSets) -> u8
-    requires { ⌜ (count < limits .blocks) × (columns ≤ limits .columns) × (length (now sets) ≡ limits .blocks * limits .columns) ⌝ }
-    ensures { λ r. ⌜ ((t : Task) → columnCount t ≡ columns → Made t (cutLent (now (cuts .entry))) columns 0 (now (sets .entry)) → CutsJudged t (cutLent (now (cuts .entry))) columns count r (now (sets .exit))) ⌝ }
+    requires { ⌜ (count < limits .blocks) × (columns ≤ limits .columns) × (length (now sets) ≡ blockPlaces) ⌝ }
+    ensures { λ r. ⌜ ((t : Task) → columnCount t ≡ columns → Made t (cutLent (now (cuts .entry))) columns 0 (now (sets .entry))
+        → CutsJudged t (cutLent (now (cuts .entry))) columns count r (now (sets .exit))) ⌝ }
 {
     let mut i: usize = 0;
     while i < count {

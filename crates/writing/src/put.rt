@@ -71,7 +71,8 @@ fn put_step(out: &mut [u8], costs: &[u16], marks: &[u8], n: usize, j: usize)
 fn put_steps(out: &mut [u8], costs: &[u16], marks: &[u8], n: usize, m: usize)
     requires { ⌜ (n ≤ limits .columns) × (m ≤ limits .steps) ⌝ }
     ensures { λ _. ⌜ ((c : ℕ → ColumnFields)
-        → now (out .exit) ≡ packed (columnBits n) (each m (stepPart c (inTable (now (costs .entry))) (marksIn (now (marks .entry)) n) n)) (now (out .entry))) ⌝ }
+        → now (out .exit)
+        ≡ packed (columnBits n) (each m (stepPart c (inTable (now (costs .entry))) (marksIn (now (marks .entry)) n) n)) (now (out .entry))) ⌝ }
 {
     let mut j: usize = 0;
     while j < m {

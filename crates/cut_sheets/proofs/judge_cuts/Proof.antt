@@ -2,6 +2,7 @@ use Prim.Native.Nat.{_-_, _≤_, _<_}
 use native.Mathlib.Omega.{arith}
 use mathlib.Core.Path.{_≡_, ap, _∙_}
 use lib.ListN.{length}
+use Rattle.task.specs.Sizes.{mostSteps, blockPlaces}
 use Rattle.task.specs.Task.{Task, columnCount}
 use Rattle.cut_sheets.specs.CutPart.{cutPart, cutOn}
 use Rattle.cut_sheets.specs.Judged.{Made}
@@ -13,7 +14,7 @@ use Rattle.cut_sheets.proofs.judge_cuts.Tie as tie
 
 abbrev Inv-loop : tie.InvT-loop
 Inv-loop s count columns sets₀ i₀ sets i =
-    ((i ≤ count) × (length sets ≡ 4096)) × ((t : Task) → columnCount t ≡ columns → Made t (cutOn s) columns 0 sets₀ → Going t (cutOn s) columns i sets)
+    ((i ≤ count) × (length sets ≡ blockPlaces)) × ((t : Task) → columnCount t ≡ columns → Made t (cutOn s) columns 0 sets₀ → Going t (cutOn s) columns i sets)
 
 abbrev μ-loop : tie.MeasureT-loop
 μ-loop s count columns sets₀ i₀ sets i = count - i
@@ -29,7 +30,7 @@ returns c =
     let l = c .before .before .before .before .loop in
     let g = c .before .before .before .before .before .before .args in
     λ t e m. going-stop t (cutOn (g .s .now)) (l .sets) (l .sets) (g .columns) (l .i) (g .count) (c .before .before .before .loop-test .taken) (l .inv .1 t e m)
-    (c .before .judge-cut .ensures .1 t e (l .inv .1 t e m .made)) (c .if1 .taken)
+    (c .before .judge-cut .ensures .refusal t e (l .inv .1 t e m .made)) (c .if1 .taken)
 
 add-make-cut : tie.Need-add-make-cut Inv-loop μ-loop
 add-make-cut c = search needs
@@ -42,7 +43,7 @@ make-cut-requires c κs =
     let p = c .before .before .before .before .before .before .before .before .pre in
     let l = c .before .before .before .before .before .before .loop in
     let g = c .before .before .before .before .before .before .before .before .args in
-    let h = there (cutOn (g .s .now)) (l .sets) (g .columns) (l .i) (p .1) (omega (arith, p .0)) (l .inv .0 .1) (c .before .read-cut .ensures) (c .before .before .if1 .left) (c .before .before .before .judge-cut .ensures .0) in
+    let h = there (cutOn (g .s .now)) (l .sets) (g .columns) (l .i) (p .1) (omega (arith, p .0)) (l .inv .0 .1) (c .before .read-cut .ensures) (c .before .before .if1 .left) (c .before .before .before .judge-cut .ensures) in
     record { wide = p .1; room = omega (arith, p .0); made = h .0; there = h .1; long = l .inv .0 .1 }
 
 add-i : tie.Need-add-i Inv-loop μ-loop
@@ -57,11 +58,11 @@ loop-again c =
     let j = c .before .before .before .before .judge-cut .ensures in
     let g = c .before .before .before .before .before .before .before .before .before .args in
     let l = c .before .before .before .before .before .before .before .loop in
-    let room : l .i < 255 = omega (arith, p .0) in (
-      (search needs, ap length (c .make-cut .ensures) ∙ more-long (cutOn (g .s .now)) (l .sets) (g .columns) (l .i) (p .1) room (l .inv .0 .1) (c .before .before .read-cut .ensures) (c .before .before .before .if1 .left) (j .0)),
+    let room : l .i < mostSteps = omega (arith, p .0) in (
+      (search needs, ap length (c .make-cut .ensures) ∙ more-long (cutOn (g .s .now)) (l .sets) (g .columns) (l .i) (p .1) room (l .inv .0 .1) (c .before .before .read-cut .ensures) (c .before .before .before .if1 .left) j),
       λ t e m.
-          going-on t (cutOn (g .s .now)) (l .sets) (g .columns) (l .i) (p .1) room (l .inv .0 .1) (c .before .before .read-cut .ensures) (c .before .before .before .if1 .left) (j .0)
-          (j .1 t e (l .inv .1 t e m .made)) (c .make-cut .ensures) (l .inv .1 t e m),
+          going-on t (cutOn (g .s .now)) (l .sets) (g .columns) (l .i) (p .1) room (l .inv .0 .1) (c .before .before .read-cut .ensures) (c .before .before .before .if1 .left) j
+          (j .refusal t e (l .inv .1 t e m .made)) (c .make-cut .ensures) (l .inv .1 t e m),
     )
 
 returns-2 : tie.Need-returns-2 Inv-loop μ-loop

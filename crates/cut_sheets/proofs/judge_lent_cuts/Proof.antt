@@ -2,6 +2,7 @@ use Prim.Native.Nat.{_-_, _≤_, _<_}
 use native.Mathlib.Omega.{arith}
 use mathlib.Core.Path.{_≡_, ap, _∙_}
 use lib.ListN.{length}
+use Rattle.task.specs.Sizes.{mostSteps, blockPlaces}
 use Rattle.task.specs.Task.{Task, columnCount}
 use Rattle.cut_sheets.specs.CutPart.{cutPart, cutNamed}
 use Rattle.cut_sheets.specs.CutSheet.{cutLent}
@@ -14,7 +15,7 @@ use Rattle.cut_sheets.proofs.judge_lent_cuts.Tie as tie
 
 abbrev Inv-loop : tie.InvT-loop
 Inv-loop cuts count columns sets₀ i₀ sets i =
-    ((i ≤ count) × (length sets ≡ 4096)) × ((t : Task) → columnCount t ≡ columns → Made t (cutLent cuts) columns 0 sets₀ → Going t (cutLent cuts) columns i sets)
+    ((i ≤ count) × (length sets ≡ blockPlaces)) × ((t : Task) → columnCount t ≡ columns → Made t (cutLent cuts) columns 0 sets₀ → Going t (cutLent cuts) columns i sets)
 
 abbrev μ-loop : tie.MeasureT-loop
 μ-loop cuts count columns sets₀ i₀ sets i = count - i
@@ -30,7 +31,7 @@ returns c =
     let l = c .before .before .before .before .loop in
     let g = c .before .before .before .before .before .before .args in
     λ t e m. going-stop t (cutLent (g .cuts .now)) (l .sets) (l .sets) (g .columns) (l .i) (g .count) (c .before .before .before .loop-test .taken) (l .inv .1 t e m)
-    (c .before .judge-lent-cut .ensures .1 t e (l .inv .1 t e m .made)) (c .if1 .taken)
+    (c .before .judge-lent-cut .ensures .cut .refusal t e (l .inv .1 t e m .made)) (c .if1 .taken)
 
 add-make-cut : tie.Need-add-make-cut Inv-loop μ-loop
 add-make-cut c = search needs
@@ -39,16 +40,16 @@ lent-cut-requires : tie.Need-lent-cut-requires Inv-loop μ-loop
 unfolding cutNamed cutLent
 lent-cut-requires c κs =
     let p = c .before .before .before .before .before .before .pre in
-    let j = c .before .judge-lent-cut .ensures .0 in
+    let j = c .before .judge-lent-cut .ensures in
     let z = c .if1 .left in
-    (omega (arith, p .0), j .place z, omega (arith, j .cut .block z, p .0), omega (arith, j .cut .column z, p .1))
+    record { cut = omega (arith, p .0); place = j .place z; block = omega (arith, j .cut .block z, p .0); column = omega (arith, j .cut .column z, p .1) }
 
 make-cut-requires : tie.Need-make-cut-requires Inv-loop μ-loop
 make-cut-requires c κs =
     let p = c .before .before .before .before .before .before .before .before .pre in
     let l = c .before .before .before .before .before .before .loop in
     let g = c .before .before .before .before .before .before .before .before .args in
-    let h = there (cutLent (g .cuts .now)) (l .sets) (g .columns) (l .i) (p .1) (omega (arith, p .0)) (l .inv .0 .1) (c .before .lent-cut .ensures) (c .before .before .if1 .left) (c .before .before .before .judge-lent-cut .ensures .0 .cut) in
+    let h = there (cutLent (g .cuts .now)) (l .sets) (g .columns) (l .i) (p .1) (omega (arith, p .0)) (l .inv .0 .1) (c .before .lent-cut .ensures) (c .before .before .if1 .left) (c .before .before .before .judge-lent-cut .ensures .cut) in
     record { wide = p .1; room = omega (arith, p .0); made = h .0; there = h .1; long = l .inv .0 .1 }
 
 add-i : tie.Need-add-i Inv-loop μ-loop
@@ -63,11 +64,11 @@ loop-again c =
     let j = c .before .before .before .before .judge-lent-cut .ensures in
     let g = c .before .before .before .before .before .before .before .before .before .args in
     let l = c .before .before .before .before .before .before .before .loop in
-    let room : l .i < 255 = omega (arith, p .0) in (
-      (search needs, ap length (c .make-cut .ensures) ∙ more-long (cutLent (g .cuts .now)) (l .sets) (g .columns) (l .i) (p .1) room (l .inv .0 .1) (c .before .before .lent-cut .ensures) (c .before .before .before .if1 .left) (j .0 .cut)),
+    let room : l .i < mostSteps = omega (arith, p .0) in (
+      (search needs, ap length (c .make-cut .ensures) ∙ more-long (cutLent (g .cuts .now)) (l .sets) (g .columns) (l .i) (p .1) room (l .inv .0 .1) (c .before .before .lent-cut .ensures) (c .before .before .before .if1 .left) (j .cut)),
       λ t e m.
-          going-on t (cutLent (g .cuts .now)) (l .sets) (g .columns) (l .i) (p .1) room (l .inv .0 .1) (c .before .before .lent-cut .ensures) (c .before .before .before .if1 .left) (j .0 .cut)
-          (j .1 t e (l .inv .1 t e m .made)) (c .make-cut .ensures) (l .inv .1 t e m),
+          going-on t (cutLent (g .cuts .now)) (l .sets) (g .columns) (l .i) (p .1) room (l .inv .0 .1) (c .before .before .lent-cut .ensures) (c .before .before .before .if1 .left) (j .cut)
+          (j .cut .refusal t e (l .inv .1 t e m .made)) (c .make-cut .ensures) (l .inv .1 t e m),
     )
 
 returns-2 : tie.Need-returns-2 Inv-loop μ-loop
