@@ -8,7 +8,7 @@ use lib.Dec.{eqb, leb, ltb}
 use lib.ListN.{length, getD, take, drop}
 use borrow.Author.Tests.{le-leb, lt-leb, lt-ltb, le-ltb, eq-eqb, ne-eqb}
 use Rattle.task.specs.Loops.{all, tab, over}
-use Rattle.task.specs.Sizes.{limits}
+use Rattle.task.specs.Sizes.{limits, blockPlaces}
 use Rattle.task.specs.Task.{Task, ColumnEntry, Accepted, noColumn, column, columnCount, sizeOf, perColumn}
 use Rattle.task.specs.Tables.{taskOf}
 use Rattle.task.proofs.LoopLaws.{and-both, all-more, all-fails, tab-ext}
@@ -97,7 +97,7 @@ module _ (m : List ℕ) (ok : judgeSheet m ≡ 0) {columns : ℕ} (w : columns �
   pub wide : columnCount (taskOn m) ≡ columns
   wide = columns-on m ∙ sym w
 
-  pub whole-long : (sets : List ℕ) {next : List ℕ} → length sets ≡ limits .blocks * limits .columns → next ≡ over (whole (taskOn m)) sets → length next ≡ limits .blocks * limits .columns
+  pub whole-long : (sets : List ℕ) {next : List ℕ} → length sets ≡ blockPlaces → next ≡ over (whole (taskOn m)) sets → length next ≡ blockPlaces
   whole-long sets l n = let k = accepted m ok .columns .1 in ap length n ∙ flat.first-long (taskOn m) sets (omega (arith, k, l)) ∙ l
 
   pub whole-block : (f : ℕ → CutFields) (sets : List ℕ) {next : List ℕ} → next ≡ over (whole (taskOn m)) sets → Made (taskOn m) f columns 0 next
@@ -109,7 +109,7 @@ module _ (m : List ℕ) (ok : judgeSheet m ≡ 0) {columns : ℕ} (w : columns �
 module _ (m : List ℕ) {r : Read} (e : r ≡ unpacked m) where
   module _ (z : r .code ≡ 0) where
     -- block 0 alone, in the array
-    pub first-long : (sets : List ℕ) {next : List ℕ} → length sets ≡ limits .blocks * limits .columns → next ≡ over (whole (taskOf (r .model))) sets → length next ≡ limits .blocks * limits .columns
+    pub first-long : (sets : List ℕ) {next : List ℕ} → length sets ≡ blockPlaces → next ≡ over (whole (taskOf (r .model))) sets → length next ≡ blockPlaces
     first-long sets l n = first-fills (r .model) sets n (given-accepted m e z .columns .1) l
 
     pub first-block : (f : ℕ → CutFields) (sets : List ℕ) {next : List ℕ} → next ≡ over (whole (taskOf (r .model))) sets → Made (taskOn m) f (r .model .columns) 0 next

@@ -3,7 +3,7 @@ ghost use mathlib.Core.Path.{_≡_};
 ghost use Prim.Native.Nat.{_+_, _*_, _≤_, _<_};
 ghost use lib.ListN.{length};
 ghost use Rattle.task.specs.Loops.{over};
-ghost use Rattle.task.specs.Sizes.{limits};
+ghost use Rattle.task.specs.Sizes.{limits, blockPlaces};
 ghost use Rattle.fields.specs.Judging.{each};
 ghost use Rattle.fields.specs.Places.{puts};
 ghost use Rattle.sheets.specs.ModelSheet.{columnsOf, judgeSheet};
@@ -49,7 +49,7 @@ fn at_front(a: &[u8], s: &[u8]) -> bool
 // Block 0 with every state of the model on an accepted sheet. The sizes are read where they stand: the model's tables would take stack below all that is
 // judged here.
 fn fill_whole(model: &[u8], columns: usize, sets: &mut BlockSets)
-    requires { ⌜ (judgeSheet (now model) ≡ 0) × (columns ≡ columnsOf (now model)) × (length (now sets) ≡ limits .blocks * limits .columns) ⌝ }
+    requires { ⌜ (judgeSheet (now model) ≡ 0) × (columns ≡ columnsOf (now model)) × (length (now sets) ≡ blockPlaces) ⌝ }
     ensures { λ _. ⌜ now (sets .exit) ≡ over (whole (taskOn (now (model .entry)))) (now (sets .entry)) ⌝ }
 {
     let mut j: usize = 0;
@@ -62,7 +62,7 @@ fn fill_whole(model: &[u8], columns: usize, sets: &mut BlockSets)
 
 // The refusal of both sheets: the given model, the inner one, 10, the cut part; 0 for none, and the array then holds the blocks.
 pub fn judge_cut_sheet(model: &[u8], sheet: &[u8], sets: &mut BlockSets) -> u8
-    requires { ⌜ length (now sets) ≡ limits .blocks * limits .columns ⌝ }
+    requires { ⌜ length (now sets) ≡ blockPlaces ⌝ }
     ensures { λ r. ⌜ SheetJudged (now (model .entry)) (now (sheet .entry)) r (now (sets .exit)) ⌝ }
 {
     let code = judge_sheet(model);

@@ -6,6 +6,7 @@ use mathlib.Core.Bool.{true, not}
 use mathlib.Core.List.{List, [], _∷_, _++_}
 use lib.ListN.{length}
 use borrow.Author.Tests.{not-false}
+use Rattle.task.specs.Sizes.{mostSteps}
 use Rattle.task.specs.Task.{Task}
 use Rattle.task.specs.Loops.{tab}
 use Rattle.task.proofs.LoopLaws.{tab-length, tab-ext}
@@ -32,7 +33,7 @@ unfolding bytesFor
 cut-whole n = omega arith
 
 -- the cut part has at most 1,404 bytes
-pub largest-part : (n : ℕ) → n ≤ 255 → cutBytes n ≤ 1404
+pub largest-part : (n : ℕ) → n ≤ mostSteps → cutBytes n ≤ 1404
 unfolding cutBits bytesFor
 largest-part n h = omega arith
 
@@ -120,7 +121,7 @@ cut-fine t c i h =
 
 pub record PartFine (t : Task) (p : CutSource) (n : ℕ) : Type 0 where
   pub form : (p .form .here ≡ true) × (p .form .value ≡ 2)
-  pub count : (p .count .here ≡ true) × (p .count .value ≤ 255)
+  pub count : (p .count .here ≡ true) × (p .count .value ≤ mostSteps)
   pub cut : (i : ℕ) → i < n → CutFine t (p .cut) i
   pub fill : (p .fill .here ≡ true) × (p .fill .value ≡ 0)
 
@@ -130,11 +131,11 @@ part-fine t p n h =
     let a = both (H t p n) (C t p n ++ F t p n) h in
     let b = both (C t p n) (F t p n) (a .1) in
     let f = first-fine (entry 4 (p .form) 2 (outside 2 2 (p .form .value))) _ (omega arith) (a .0) in
-    let c = first-fine (entry 8 (p .count) 9 (outside 0 255 (p .count .value))) [] (omega arith) (f .1) in
+    let c = first-fine (entry 8 (p .count) 9 (outside 0 mostSteps (p .count .value))) [] (omega arith) (f .1) in
     let q = inside-means 2 2 (p .form .value) (f .0 .1) in
     record {
       form = (f .0 .0, omega arith);
-      count = (c .0 .0, inside-means 0 255 (p .count .value) (c .0 .1) .1);
+      count = (c .0 .0, inside-means 0 mostSteps (p .count .value) (c .0 .1) .1);
       cut = λ i l. cut-fine t (p .cut) i (judged-at n (cutPart t (p .cut)) (b .0) i l);
       fill = fill-fine (cutBits n) (p .fill) (b .1);
     }

@@ -8,6 +8,7 @@ use lib.ListN.{length}
 use lib.Dec.{ltb}
 use lib.Pow.{pow-pos}
 use borrow.Author.Tests.{leb-true, le-ltb, ltb-false}
+use Rattle.task.specs.Sizes.{mostSteps}
 use Rattle.task.specs.Task.{Task, Accepted}
 use Rattle.fields.specs.Judging.{Field, Entry, judged}
 use Rattle.fields.specs.Packing.{bitsIn, sheetOf}
@@ -22,14 +23,14 @@ use Rattle.cut_sheets.specs.CutPart.{CutFields, CutSource, cutNamed, cut
 use Rattle.cut_sheets.proofs.CutPartLaws.{H, C, F, cut-whole, part-bits, CutReads, holds-reads, reads-holds, CutFine, PartFine, part-fine, cuts-length, cuts-accepted, SameCuts, same-fields, reads-same}
 
 -- a cut that is accepted has room in its fields
-module _ (t : Task) (v : Accepted t) (c : ℕ → CutFields) (i : ℕ) (h : i < 255) (ok : CutFine t c i) where
-  pub block-fits : c i .block .value < 256
+module _ (t : Task) (v : Accepted t) (c : ℕ → CutFields) (i : ℕ) (h : i < mostSteps) (ok : CutFine t c i) where
+  pub block-fits : c i .block .value < 2 ^ 8
   unfolding cutNamed
   block-fits =
       let f = fits t (blocksOf t (cutsNamed c i)) (cutNamed (c i)) (ok .ok) in
       omega (arith, f .made, blocks-length t (cutsNamed c i), cuts-length c i)
 
-  pub column-fits : c i .column .value < 16
+  pub column-fits : c i .column .value < 2 ^ 4
   unfolding cutNamed
   column-fits = let f = fits t (blocksOf t (cutsNamed c i)) (cutNamed (c i)) (ok .ok) in omega (arith, f .there, v .columns .1)
 
@@ -54,7 +55,7 @@ module _ (t : Task) (v : Accepted t) (p : CutSource) (ok : judged (cutEntries t 
       fit-append (H t p n) (C t p n ++ F t p n) (omega (arith, good .form .1), (omega (arith, good .count .1), tt))
       (fit-append (C t p n) (F t p n)
       (fit-each (cutPart t (p .cut)) n (λ i h.
-      let l : i < 255 = omega (arith, good .count .1) in
+      let l : i < mostSteps = omega (arith, good .count .1) in
       (block-fits t v (p .cut) i l (good .cut i h), (column-fits t v (p .cut) i l (good .cut i h), (sets i h, tt)))))
       (omega (arith, good .fill .1, pow-pos (fillBits (cutBits n))), tt))
 

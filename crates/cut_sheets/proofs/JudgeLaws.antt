@@ -7,6 +7,7 @@ use mathlib.Core.Logic.{⊎-elim}
 use mathlib.Core.Bool.{Bool, true, false, not}
 use mathlib.Core.List.{List, [], _∷_, _++_}
 use lib.ListN.{length, replicate, length-replicate}
+use Rattle.task.specs.Sizes.{limits, mostSteps, blockPlaces}
 use Rattle.task.specs.Task.{Task, columnCount, column, block, noColumn}
 use Rattle.task.proofs.LoopLaws.{true-or-false}
 use Rattle.fields.specs.Bits.{fieldAt}
@@ -94,7 +95,7 @@ module _ (t : Task) (f : ℕ → CutFields) (i : ℕ) where
   abbrev Bs : Blocks
   Bs = blocksOf t (cutsNamed f i)
 
-  pub not-made : i < 255 → 256 ≤ f i .block .value → cutOk t Bs (cutNamed (f i)) ≡ false
+  pub not-made : i < mostSteps → limits .blocks ≤ f i .block .value → cutOk t Bs (cutNamed (f i)) ≡ false
   unfolding cutNamed
   not-made h k =
       ⊎-elim
@@ -102,7 +103,7 @@ module _ (t : Task) (f : ℕ → CutFields) (i : ℕ) where
       (λ (e : cutOk t Bs (cutNamed (f i)) ≡ false). e)
       (true-or-false (cutOk t Bs (cutNamed (f i))))
 
-  pub not-there : columnCount t ≤ 16 → 16 ≤ f i .column .value → cutOk t Bs (cutNamed (f i)) ≡ false
+  pub not-there : columnCount t ≤ limits .columns → limits .columns ≤ f i .column .value → cutOk t Bs (cutNamed (f i)) ≡ false
   unfolding cutNamed
   not-there h k =
       ⊎-elim
@@ -146,11 +147,11 @@ lent-bad cuts sets columns i n j = record { place = λ z. absurd (n z); cut = ju
 -- ---- the loop
 
 -- a cut that was accepted is made: the array then holds the blocks of one cut more
-module _ (f : ℕ → CutFields) (sets : List ℕ) (columns i : ℕ) (wide : columns ≤ 16) (room : i < 255) (long : length sets ≡ 4096) {c : Cut} {r : ℕ} (p : c ≡ cutNamed (f i)) (z : r ≡ 0) (j : CutJudged f columns i r sets) where
+module _ (f : ℕ → CutFields) (sets : List ℕ) (columns i : ℕ) (wide : columns ≤ limits .columns) (room : i < mostSteps) (long : length sets ≡ blockPlaces) {c : Cut} {r : ℕ} (p : c ≡ cutNamed (f i)) (z : r ≡ 0) (j : CutJudged f columns i r sets) where
   pub there : (c .block .0 < i + 1) × (c .column .0 < columns)
   there = rw p (j .block z, j .column z)
 
-  pub more-long : length (cutIn columns (i + 1) c sets) ≡ 4096
+  pub more-long : length (cutIn columns (i + 1) c sets) ≡ blockPlaces
   more-long = cut-in-length columns (i + 1) c sets wide (omega arith) (there .0) (there .1) long
 
   pub made-more : (t : Task) → Made t f columns i sets → Made t f columns (i + 1) (cutIn columns (i + 1) c sets)
@@ -163,7 +164,7 @@ pub record Going (t : Task) (f : ℕ → CutFields) (columns i : ℕ) (sets : Li
   pub passed : judged (each i (cutPart t f)) ≡ 0
   pub made : Made t f columns i sets
 
-pub going-on : (t : Task) (f : ℕ → CutFields) (sets : List ℕ) (columns i : ℕ) {c : Cut} {r : ℕ} {next : List ℕ} → columns ≤ 16 → i < 255 → length sets ≡ 4096 → c ≡ cutNamed (f i) → r ≡ 0 → CutJudged f columns i r sets
+pub going-on : (t : Task) (f : ℕ → CutFields) (sets : List ℕ) (columns i : ℕ) {c : Cut} {r : ℕ} {next : List ℕ} → columns ≤ limits .columns → i < mostSteps → length sets ≡ blockPlaces → c ≡ cutNamed (f i) → r ≡ 0 → CutJudged f columns i r sets
     → r ≡ judged (cutPart t f i) → next ≡ cutIn columns (i + 1) c sets → Going t f columns i sets → Going t f columns (i + 1) next
 going-on t f sets columns i wide room long p z j e n g =
     record { passed = pass i (cutPart t f) (g .passed) e z; made = rw n (made-more f sets columns i wide room long p z j t (g .made)) }
@@ -183,7 +184,7 @@ module _ (t : Task) (s : List ℕ) where
   Form = entry 4 (onSheet s 0 4) 2 (outside 2 2 (fieldAt s 0 4))
 
   abbrev Count : Entry
-  Count = entry 8 (onSheet s 4 8) 9 (outside 0 255 (fieldAt s 4 8))
+  Count = entry 8 (onSheet s 4 8) 9 (outside 0 mostSteps (fieldAt s 4 8))
 
   abbrev Cuts : ℕ → List Entry
   Cuts n = each n (cutPart t (cutOn s))
@@ -243,5 +244,5 @@ module _ (t : Task) (s : List ℕ) (columns : ℕ) {a : ℕ} {exit : List ℕ} (
       }
 
 -- the count of a part whose header was accepted
-pub count-below : (s : List ℕ) {n : ℕ} → n ≡ countOf s → n < 256
+pub count-below : (s : List ℕ) {n : ℕ} → n ≡ countOf s → n < limits .blocks
 count-below s e = omega (arith, field-lt s 4 8)

@@ -8,6 +8,7 @@ use lib.Dec.{ltb}
 use lib.Seq.{ext-getD, getD-drop, take-all, drop-at, take-at, drop-drop}
 use borrow.Author.Tests.{ltb-true, lt-ltb, le-ltb, eq-eqb}
 use borrow.Rule.Slice.PartMut.{putMid}
+use Rattle.task.specs.Sizes.{limits, mostSteps}
 use Rattle.task.specs.Loops.{tab, over}
 use Rattle.task.specs.Task.{Task, Accepted}
 use Rattle.task.proofs.LoopLaws.{tab-at, tab-length}
@@ -64,7 +65,7 @@ module _ (t : Task) (count : ℕ) (cuts : List ℕ) where
   Form = entry 4 (given 2) 2 (outside 2 2 2)
 
   abbrev Count : Entry
-  Count = entry 8 (given count) 9 (outside 0 255 count)
+  Count = entry 8 (given count) 9 (outside 0 mostSteps count)
 
   abbrev Rest : List Entry
   Rest = C t (ofCuts count cuts) count ++ F t (ofCuts count cuts) count
@@ -73,24 +74,24 @@ module _ (t : Task) (count : ℕ) (cuts : List ℕ) where
   unfolding outside
   form-good = good 4 (given 2) 2 (outside 2 2 2) refl refl
 
-  -- more than 255 cuts are refused at the count
-  pub too-many : 256 ≤ count → 9 ≡ judged (cutEntries t (ofCuts count cuts))
+  -- more cuts than that are refused at the count
+  pub too-many : limits .blocks ≤ count → 9 ≡ judged (cutEntries t (ofCuts count cuts))
   unfolding cutEntries cutFields cutHeader ofCuts
   too-many h =
       went (Form ∷ []) (Count ∷ Rest) form-good refl
-      (stopped (Count ∷ []) Rest (spoilt 8 (given count) 9 (outside 0 255 count) refl (above-high 0 255 count (omega arith) (omega arith))) (λ z. omega arith))
+      (stopped (Count ∷ []) Rest (spoilt 8 (given count) 9 (outside 0 mostSteps count) refl (above-high 0 mostSteps count (omega arith) (omega arith))) (λ z. omega arith))
 
-  past-count : {r : ℕ} → count < 256 → r ≡ judged Rest → r ≡ judged (cutEntries t (ofCuts count cuts))
+  past-count : {r : ℕ} → count < limits .blocks → r ≡ judged Rest → r ≡ judged (cutEntries t (ofCuts count cuts))
   unfolding cutEntries cutFields cutHeader ofCuts
   past-count h e =
-      went (Form ∷ []) (Count ∷ Rest) form-good refl (went (Count ∷ []) Rest (good 8 (given count) 9 (outside 0 255 count) refl (inside 0 255 count (omega arith) (omega arith))) refl e)
+      went (Form ∷ []) (Count ∷ Rest) form-good refl (went (Count ∷ []) Rest (good 8 (given count) 9 (outside 0 mostSteps count) refl (inside 0 mostSteps count (omega arith) (omega arith))) refl e)
 
   fill-good : 0 ≡ judged (F t (ofCuts count cuts) count)
   unfolding fillPart ofCuts outside
   fill-good = good (fillBits (cutBits count)) (given 0) 6 (outside 0 0 0) refl refl
 
   -- else the cuts decide
-  pub lent-judged : {r columns : ℕ} {exit : List ℕ} → count < 256 → CutsJudged t (cutLent cuts) columns count r exit → r ≡ judged (cutEntries t (ofCuts count cuts))
+  pub lent-judged : {r columns : ℕ} {exit : List ℕ} → count < limits .blocks → CutsJudged t (cutLent cuts) columns count r exit → r ≡ judged (cutEntries t (ofCuts count cuts))
   unfolding ofCuts
   lent-judged {r} h j = past-count h (split r (j .refusal))
     where
@@ -99,7 +100,7 @@ module _ (t : Task) (count : ℕ) (cuts : List ℕ) where
       split (suc x) e = stopped (C t (ofCuts count cuts) count) (F t (ofCuts count cuts) count) e (λ z. omega arith)
 
   -- an accepted list has its places
-  pub given-places : judged (cutEntries t (ofCuts count cuts)) ≡ 0 → (count < 256) × (count * 3 ≤ length cuts)
+  pub given-places : judged (cutEntries t (ofCuts count cuts)) ≡ 0 → (count < limits .blocks) × (count * 3 ≤ length cuts)
   unfolding cutEntries ofCuts cutLent
   given-places h =
       let f = part-fine t (ofCuts count cuts) count h in

@@ -7,7 +7,7 @@ use mathlib.Core.Path.{_≡_, refl, sym, ap, _∙_, subst}
 use mathlib.Core.List.{List, [], _∷_, _++_}
 use lib.ListN.{length, getD, take, drop, replicate, length-replicate, getD-replicate, List·getD-eq-default, take-append-drop}
 use lib.Seq.{length-take-le, getD-take}
-use Rattle.fields.specs.Bits.{bitAt, fieldAt, putField}
+use Rattle.fields.specs.Bits.{byteValues, bitAt, fieldAt, putField}
 use Rattle.fields.specs.Judging.{Entry, each}
 use Rattle.fields.specs.Packing.{bitsIn, packed, zeros, bytesFor, sheetOf}
 use Rattle.fields.proofs.JudgingLaws.{each-more}
@@ -167,14 +167,14 @@ pub bytes-zeros : (b : ℕ) → Bytes (zeros b)
 unfolding zeros
 bytes-zeros b i = split (decLt i b)
   where
-    split : Dec (i < b) → getD (replicate b 0) i 0 < 256
+    split : Dec (i < b) → getD (replicate b 0) i 0 < byteValues
     split (yes p) = rw (getD-replicate {A = ℕ} b i 0 0 p) (omega arith)
     split (no p) = rw (List·getD-eq-default {A = ℕ} (replicate b 0) 0 {n = i} (omega (arith, length-replicate {A = ℕ} b 0))) (omega arith)
 
 pub bytes-take : (b : ℕ) (l : List ℕ) → b ≤ length l → Bytes l → Bytes (take b l)
 bytes-take b l q h i = split (decLt i b)
   where
-    split : Dec (i < b) → getD (take b l) i 0 < 256
+    split : Dec (i < b) → getD (take b l) i 0 < byteValues
     split (yes p) = rw (getD-take b l i 0 p) (h i)
     split (no p) = rw (List·getD-eq-default (take b l) 0 {n = i} (omega (arith, length-take-le b l q))) (omega arith)
 

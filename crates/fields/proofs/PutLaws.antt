@@ -10,7 +10,7 @@ use mathlib.Core.Path.{_≡_, refl, sym, ap, _∙_, subst}
 use mathlib.Core.List.{List, _++_}
 use lib.ListN.{length, getD, set, length-set, List·getD-append}
 use lib.Seq.{getD-set-same, getD-set-other, set-out, set-append-left, ext-getD}
-use Rattle.fields.specs.Bits.{bitAt, fieldAt, withBit, putBit, putField}
+use Rattle.fields.specs.Bits.{byteValues, bitAt, fieldAt, withBit, putBit, putField}
 use Rattle.fields.proofs.FieldLaws.{bit-lt}
 
 double : (e : ℕ) → 2 * 2 ^ e ≡ 2 ^ (1 + e)
@@ -60,7 +60,7 @@ module _ (x e b : ℕ) (bit : b < 2) where
           subst (λ (z : ℕ). withBit x e b / 2 ^ z % 2 ≡ x / 2 ^ z % 2) q (above (k - (1 + e)))
 
   -- a byte stays one
-  pub with-byte : x < 256 → e < 8 → withBit x e b < 256
+  pub with-byte : x < byteValues → e < 8 → withBit x e b < byteValues
   unfolding withBit
   with-byte hx he =
       let q : (7 - e) + (1 + e) ≡ 8 = omega arith in
@@ -151,7 +151,7 @@ abbrev pub Agree : ℕ → List ℕ → List ℕ → Type 0
 Agree p s t = (k : ℕ) → k < p → bitAt s k ≡ bitAt t k
 
 -- the first w bits of byte i are its highest
-high-bits : (s : List ℕ) (i w d : ℕ) → w + d ≡ 8 → getD s i 0 < 256 → fieldAt s (8 * i) w ≡ getD s i 0 / 2 ^ d
+high-bits : (s : List ℕ) (i w d : ℕ) → w + d ≡ 8 → getD s i 0 < byteValues → fieldAt s (8 * i) w ≡ getD s i 0 / 2 ^ d
 unfolding fieldAt bitAt
 high-bits s i zero d q h = let e : d ≡ 8 = omega arith in sym (ap (λ (z : ℕ). getD s i 0 / 2 ^ z) e ∙ div-eq-of-lt h)
 high-bits s i (suc w) d q h =
@@ -162,12 +162,12 @@ high-bits s i (suc w) d q h =
     omega (arith, high-bits s i w (d + 1) (omega arith) h, shr-shr x d 1)
 
 -- byte i is the field of its eight bits
-pub byte-field : (s : List ℕ) (i : ℕ) → getD s i 0 < 256 → fieldAt s (8 * i) 8 ≡ getD s i 0
+pub byte-field : (s : List ℕ) (i : ℕ) → getD s i 0 < byteValues → fieldAt s (8 * i) 8 ≡ getD s i 0
 byte-field s i h = high-bits s i 8 0 (omega arith) h ∙ div-one (getD s i 0)
 
 -- bytes are their bits
 abbrev pub Bytes : List ℕ → Type 0
-Bytes s = (i : ℕ) → getD s i 0 < 256
+Bytes s = (i : ℕ) → getD s i 0 < byteValues
 
 pub same-bits : (s t : List ℕ) → length s ≡ length t → Bytes s → Bytes t → Agree (8 * length s) s t → s ≡ t
 same-bits s t e hs ht a =
@@ -199,7 +199,7 @@ bytes-bit k b l hb h i = split (decLt (k / 8) (length l)) (ℕ-discrete i (k / 8
     y : ℕ
     y = withBit (getD l (k / 8) 0) (7 - k % 8) b
 
-    split : Dec (k / 8 < length l) → Dec (i ≡ k / 8) → getD (set l (k / 8) y) i 0 < 256
+    split : Dec (k / 8 < length l) → Dec (i ≡ k / 8) → getD (set l (k / 8) y) i 0 < byteValues
     split (yes p) (yes q) = rw (q, getD-set-same l (k / 8) y 0 p) (with-byte (getD l (k / 8) 0) (7 - k % 8) b hb (h (k / 8)) (omega arith))
     split (yes p) (no q) = rw (getD-set-other l (k / 8) i y 0 q) (h i)
     split (no p) q = rw (set-out l (k / 8) y (omega arith)) (h i)

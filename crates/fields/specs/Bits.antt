@@ -3,6 +3,17 @@ use Prim.Native.Nat.{ℕ, zero, suc, _+_, _-_, _*_, _/_, _%_, _^_}
 use mathlib.Core.List.{List}
 use lib.ListN.{getD, set}
 
+-- a byte is below this
+abbrev pub byteValues : ℕ
+byteValues = 256
+
+-- code reads and puts fields of at most so many bits, and none that begins farther than this
+abbrev pub widestField : ℕ
+widestField = 32
+
+abbrev pub farthestBit : ℕ
+farthestBit = 65536
+
 -- bit k of the bytes s, where bit 0 is the first byte's most significant
 unfoldable pub bitAt : List ℕ → ℕ → ℕ
 bitAt s k = getD s (k / 8) 0 / 2 ^ (7 - k % 8) % 2

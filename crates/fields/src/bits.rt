@@ -1,7 +1,7 @@
 // Single bits of bytes.
 ghost use mathlib.Core.Path.{_≡_};
 ghost use Prim.Native.Nat.{_^_, _<_};
-ghost use Rattle.fields.specs.Bits.{bitAt, withBit, putBit};
+ghost use Rattle.fields.specs.Bits.{byteValues, bitAt, withBit, putBit};
 
 // The bit at a position; 0 past the end.
 pub fn bit(s: &[u8], at: usize) -> u32
@@ -23,8 +23,8 @@ fn weight(e: usize) -> u32
 
 // A byte with its bit of weight 2 ^ e made b.
 fn with_bit(x: u32, e: usize, b: u32) -> u32
-    requires { ⌜ (x < 256) × (e < 8) × (b < 2) ⌝ }
-    ensures { λ r. ⌜ (r ≡ withBit x e b) × (r < 256) ⌝ }
+    requires { ⌜ (x < byteValues) × (e < 8) × (b < 2) ⌝ }
+    ensures { λ r. ⌜ (r ≡ withBit x e b) × (r < byteValues) ⌝ }
 {
     let p = weight(e);
     let q = 2 * p;

@@ -3,13 +3,13 @@ ghost use mathlib.Core.Path.{_≡_};
 ghost use mathlib.Core.List.{[], _∷_};
 ghost use Prim.Native.Nat.{_≤_};
 ghost use lib.Dec.{leb};
-ghost use Rattle.fields.specs.Bits.{fieldAt};
+ghost use Rattle.fields.specs.Bits.{widestField, farthestBit, fieldAt};
 ghost use Rattle.fields.specs.Judging.{onSheet, entry, free, outside, follows, refusal, judged};
 use crate::bits::bit;
 
 // The value of the w bits from a position on.
 pub fn field(s: &[u8], at: usize, w: usize) -> u32
-    requires { ⌜ (w ≤ 32) × (at ≤ 65536) ⌝ }
+    requires { ⌜ (w ≤ widestField) × (at ≤ farthestBit) ⌝ }
     ensures { λ r. ⌜ r ≡ fieldAt (now (s .entry)) at w ⌝ }
 {
     let mut v: u32 = 0;
@@ -23,7 +23,7 @@ pub fn field(s: &[u8], at: usize, w: usize) -> u32
 
 // 1 where the bytes end before the field is complete, code where its value is not low to high, else 0.
 pub fn judge_field(s: &[u8], at: usize, w: usize, low: u32, high: u32, code: u8) -> u8
-    requires { ⌜ (w ≤ 32) × (at ≤ 65536) ⌝ }
+    requires { ⌜ (w ≤ widestField) × (at ≤ farthestBit) ⌝ }
     ensures { λ r. ⌜ r ≡ judged (entry w (onSheet (now (s .entry)) at w) code (outside low high (fieldAt (now (s .entry)) at w)) ∷ []) ⌝ }
 {
     if s.len() < (at + w + 7) / 8 {
@@ -41,7 +41,7 @@ pub fn judge_field(s: &[u8], at: usize, w: usize, low: u32, high: u32, code: u8)
 
 // 1 where the bytes end before the field is complete, code where its value is not below end, else 0.
 pub fn judge_below(s: &[u8], at: usize, w: usize, end: u32, code: u8) -> u8
-    requires { ⌜ (w ≤ 32) × (at ≤ 65536) ⌝ }
+    requires { ⌜ (w ≤ widestField) × (at ≤ farthestBit) ⌝ }
     ensures { λ r. ⌜ r ≡ judged (entry w (onSheet (now (s .entry)) at w) code (leb end (fieldAt (now (s .entry)) at w)) ∷ []) ⌝ }
 {
     if s.len() < (at + w + 7) / 8 {
@@ -56,7 +56,7 @@ pub fn judge_below(s: &[u8], at: usize, w: usize, end: u32, code: u8) -> u8
 
 // 1 where the bytes end before the field is complete, else 0.
 pub fn judge_free(s: &[u8], at: usize, w: usize) -> u8
-    requires { ⌜ (w ≤ 32) × (at ≤ 65536) ⌝ }
+    requires { ⌜ (w ≤ widestField) × (at ≤ farthestBit) ⌝ }
     ensures { λ r. ⌜ r ≡ judged (free w (onSheet (now (s .entry)) at w) ∷ []) ⌝ }
 {
     if s.len() < (at + w + 7) / 8 {

@@ -1,5 +1,5 @@
 -- Tables written and read back are the same, and a sheet read into tables and written from them is the same bytes.
-use Prim.Native.Nat.{ℕ, suc, _+_, _*_, _≤_, _<_}
+use Prim.Native.Nat.{ℕ, suc, _+_, _*_, _^_, _≤_, _<_}
 use native.Mathlib.Nat.{suc-mul, add-zero, zero-add, mul-le-mul, le-refl, mul-one}
 use native.Mathlib.Omega.{arith}
 use mathlib.Core.Path.{_≡_, refl, sym, ap, ap₂, _∙_, subst}
@@ -87,12 +87,12 @@ module _ (n m : ℕ) (frame costs marks : List ℕ) (ok : judged (entries (ofTab
       slices _ (n * 2) m 0 marks
       (λ j h. slices _ 2 n (j * (n * 2)) marks (λ i l. sym (two marks (j * (n * 2) + i * 2) (long-marks j i h l))) ∙ rw zero-add refl)
 
-  module _ (bound : (j : ℕ) → j < m → getD costs j 0 < 65536) where
+  module _ (bound : (j : ℕ) → j < m → getD costs j 0 < 2 ^ 16) where
     -- the bytes that the writer writes
     abbrev S : List ℕ
     S = sheetOf (entries P)
 
-    fits-tenths : (j : ℕ) → j < stepsIn P → P .cost j .value < 65536
+    fits-tenths : (j : ℕ) → j < stepsIn P → P .cost j .value < 2 ^ 16
     unfolding ofTables
     fits-tenths j h = bound j h
 

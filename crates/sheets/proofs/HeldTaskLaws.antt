@@ -1,5 +1,5 @@
 -- The task that an accepted sheet says: the model by value is it, it is within 01's limits, and the sheet is its only one.
-use Prim.Native.Nat.{ℕ, zero, suc, _+_, _*_, _/_, _%_, _≤_, _<_}
+use Prim.Native.Nat.{ℕ, zero, suc, _+_, _*_, _/_, _%_, _^_, _≤_, _<_}
 use native.Mathlib.Omega.{arith}
 use native.Mathlib.Decide.{decLt}
 use mathlib.Core.Path.{_≡_, refl, sym, ap, ap₂, _∙_, subst}
@@ -7,6 +7,7 @@ use mathlib.Core.List.{List}
 use mathlib.Core.Option.{Option, none, some}
 use lib.ListN.{getD, List·getD-eq-default}
 use borrow.Author.Tests.{lt-ltb}
+use Rattle.task.specs.Sizes.{limits, mostCost}
 use Rattle.task.specs.declared.Column.{Column}
 use Rattle.task.specs.declared.Position.{Position}
 use Rattle.task.specs.declared.Step.{Step}
@@ -23,22 +24,22 @@ use Rattle.sheets.specs.Holding.{columnSaid, changeSaid, stepSaid, taskI
 use Rattle.sheets.proofs.RoundLaws.{Fine, Same, same-fields, same-sheets, own-fine}
 
 -- ---- the model by value is the task that the fields say
-table-at : (f : ℕ → ℕ → ℕ) (n m j i : ℕ) → n ≤ 16 → j < m → i < n → getD (markTable f n m) (j * 16 + i) (mark 0) ≡ mark (f j i)
+table-at : (f : ℕ → ℕ → ℕ) (n m j i : ℕ) → n ≤ limits .columns → j < m → i < n → getD (markTable f n m) (j * limits .columns + i) (mark 0) ≡ mark (f j i)
 unfolding markTable markPlace
 table-at f n m j i h hj hi =
-    let k = j * 16 + i in
-    let d : k / 16 ≡ j = omega arith in
-    let r : k % 16 ≡ i = omega arith in
-    over-at (m * 16) (markPlace f n) _ (mark 0) k (omega arith) ∙ simp (r, d, lt-ltb i n hi)
+    let k = j * limits .columns + i in
+    let d : k / limits .columns ≡ j = omega arith in
+    let r : k % limits .columns ≡ i = omega arith in
+    over-at (m * limits .columns) (markPlace f n) _ (mark 0) k (omega arith) ∙ simp (r, d, lt-ltb i n hi)
 
-module _ (p : Source) (hn : columnsIn p ≤ 16) where
+module _ (p : Source) (hn : columnsIn p ≤ limits .columns) where
   column-held : (i : ℕ) → i < columnsIn p → columnEntry (modelOf p) i ≡ columnSaid (p .column) i
   unfolding columnEntry columnSaid modelOf
   column-held i h =
       λ k. record {
-        size = over-at (columnsIn p) (λ i. p .column i .size .value) (unused 16 0) 0 i h k;
-        start = over-at (columnsIn p) (λ i. position (p .column i .start .value)) (unused 16 (position 0)) (position 0) i h k;
-        goal = marked (over-at (columnsIn p) (λ i. mark (p .column i .goal .value)) (unused 16 (mark 0)) (mark 0) i h k);
+        size = over-at (columnsIn p) (λ i. p .column i .size .value) (unused (limits .columns) 0) 0 i h k;
+        start = over-at (columnsIn p) (λ i. position (p .column i .start .value)) (unused (limits .columns) (position 0)) (position 0) i h k;
+        goal = marked (over-at (columnsIn p) (λ i. mark (p .column i .goal .value)) (unused (limits .columns) (mark 0)) (mark 0) i h k);
       }
 
   change-held : (j i : ℕ) → j < stepsIn p → i < columnsIn p → changeEntry (modelOf p) j i ≡ changeSaid (p .marks) j i
@@ -53,7 +54,7 @@ module _ (p : Source) (hn : columnsIn p ≤ 16) where
   unfolding stepEntry stepSaid modelOf
   step-held j h =
       λ k. record {
-        cost = over-at (stepsIn p) (λ j. p .cost j .value) (unused 128 0) 0 j h k;
+        cost = over-at (stepsIn p) (λ j. p .cost j .value) (unused (limits .steps) 0) 0 j h k;
         changes = tab-ext (columnsIn p) (changeEntry (modelOf p) j) (changeSaid (p .marks) j) (λ i l. change-held j i h l) k;
       }
 
@@ -146,7 +147,7 @@ module _ (s : List ℕ) (ok : judgeSheet s ≡ 0) where
   unfolding ofSheet sheetWith
   ok-fine = own-fine s ok
 
-  tenths-lt : (j : ℕ) → P .cost j .value < 65536
+  tenths-lt : (j : ℕ) → P .cost j .value < 2 ^ 16
   unfolding ofSheet sheetWith costOn
   tenths-lt j = omega (arith, field-lt s (modelBits (columnsOf s) j) 16)
 
@@ -175,7 +176,7 @@ module _ (s : List ℕ) (ok : judgeSheet s ≡ 0) where
         tenths = λ t. tenths-of t (decLt (t .0) (stepsIn P));
       }
     where
-      tenths-of : (t : Step) → Dec (t .0 < stepsIn P) → costOf T t ≤ 65535
+      tenths-of : (t : Step) → Dec (t .0 < stepsIn P) → costOf T t ≤ mostCost
       tenths-of t (yes l) = omega (arith, cost-said P t l, tenths-lt (t .0))
       tenths-of t (no l) = omega (arith, cost-past P t (omega arith))
 

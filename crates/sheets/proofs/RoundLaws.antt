@@ -1,5 +1,5 @@
 -- There and back: what an accepted model says of each field, what its sheet is read as, and that a sheet is written as it was read.
-use Prim.Native.Nat.{ℕ, suc, _+_, _*_, _≤_, _<_}
+use Prim.Native.Nat.{ℕ, suc, _+_, _*_, _^_, _≤_, _<_}
 use native.Mathlib.Nat.{mul-le-mul, le-refl, suc-mul}
 use native.Mathlib.Omega.{arith}
 use mathlib.Core.Path.{_≡_, refl, sym, ap, ap₂, _∙_, subst}
@@ -9,6 +9,7 @@ use lib.ListN.{length}
 use lib.Pow.{pow-pos}
 use lib.Dec.{leb}
 use borrow.Author.Tests.{leb-true, leb-false}
+use Rattle.task.specs.Sizes.{limits}
 use Rattle.fields.specs.Judging.{Field, Entry, onSheet, entry, free, outside, judged, each}
 use Rattle.fields.specs.Packing.{bitsIn, sheetOf}
 use Rattle.fields.proofs.JudgingLaws.{first-fine, fine, judged-at, inside-means, sheet-here, each-ext}
@@ -22,7 +23,7 @@ use Rattle.sheets.proofs.HoldLaws.{Reads, holds-reads, reads-holds, she
 -- ---- what no refusal says of each field
 pub record Fine (p : Source) (n m : ℕ) : Type 0 where
   pub header : HeaderFine (p .form) (p .columns) (p .steps)
-  pub size : (i : ℕ) → i < n → (p .column i .size .here ≡ true) × (1 ≤ p .column i .size .value) × (p .column i .size .value ≤ 32)
+  pub size : (i : ℕ) → i < n → (p .column i .size .here ≡ true) × (1 ≤ p .column i .size .value) × (p .column i .size .value ≤ limits .positions)
   pub start : (i : ℕ) → i < n → (p .column i .start .here ≡ true) × (p .column i .start .value < p .column i .size .value)
   pub goal : (i : ℕ) → i < n → (p .column i .goal .here ≡ true) × (p .column i .goal .value ≤ p .column i .size .value)
   pub cost : (j : ℕ) → j < m → p .cost j .here ≡ true
@@ -37,14 +38,14 @@ mark-fine f size es h =
     ((a .0 .0, inside-means 0 size (f .value) (a .0 .1) .1), a .1)
 
 module _ (c : ℕ → ColumnFields) (i : ℕ) where
-  column-fine : judged (columnPart c i) ≡ 0 → ((c i .size .here ≡ true) × (1 ≤ c i .size .value) × (c i .size .value ≤ 32)) × ((c i .start .here ≡ true) × (c i .start .value < c i .size .value)) × ((c i .goal .here ≡ true) × (c i .goal .value ≤ c i .size .value))
+  column-fine : judged (columnPart c i) ≡ 0 → ((c i .size .here ≡ true) × (1 ≤ c i .size .value) × (c i .size .value ≤ limits .positions)) × ((c i .start .here ≡ true) × (c i .start .value < c i .size .value)) × ((c i .goal .here ≡ true) × (c i .goal .value ≤ c i .size .value))
   unfolding columnPart
   column-fine h =
       let z = c i .size .value in
-      let a = first-fine (entry 6 (c i .size) 4 (outside 1 32 z)) _ (omega arith) h in
+      let a = first-fine (entry 6 (c i .size) 4 (outside 1 (limits .positions) z)) _ (omega arith) h in
       let b = first-fine (entry 5 (c i .start) 5 (leb z (c i .start .value))) _ (omega arith) (a .1) in
       let d = mark-fine (c i .goal) z [] (b .1) in
-      let q = inside-means 1 32 z (a .0 .1) in
+      let q = inside-means 1 (limits .positions) z (a .0 .1) in
       ((a .0 .0, q .0, q .1), (b .0 .0, leb-false z (c i .start .value) (b .0 .1)), d .0)
 
   marks-fine : (k : ℕ → ℕ → MarkFields) (j : ℕ) → judged (marksPart c k j i) ≡ 0 → ((k j i .need .here ≡ true) × (k j i .need .value ≤ c i .size .value)) × ((k j i .effect .here ≡ true) × (k j i .effect .value ≤ c i .size .value))
@@ -161,7 +162,7 @@ module _ (s : List ℕ) (p : Source) (n m : ℕ) (ok : Fine p n m) (r : Reads s 
       }
 
 -- ---- written and read back
-module _ (p : Source) (ok : judged (entries p) ≡ 0) (costs : (j : ℕ) → j < stepsIn p → p .cost j .value < 65536) where
+module _ (p : Source) (ok : judged (entries p) ≡ 0) (costs : (j : ℕ) → j < stepsIn p → p .cost j .value < 2 ^ 16) where
   abbrev n : ℕ
   n = columnsIn p
 

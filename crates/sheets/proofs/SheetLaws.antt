@@ -19,23 +19,23 @@ pub bits-le : (n j : ℕ) → n ≤ limits .columns → j ≤ limits .steps → 
 unfolding modelBits
 bits-le n j hn hj = omega (arith, mul-le-mul {n₁ = j} {m₁ = 16 + n * 12} {n₂ = limits .steps} {m₂ = 16 + limits .columns * 12} hj (omega arith))
 
--- a header that is not refused: its form is 1, with 1 to 16 columns and at most 128 steps
+-- a header that is not refused: its form is 1, with columns and steps within the limits
 pub record HeaderFine (f c m : Field) : Type 0 where
   pub form : f .value ≡ 1
   pub some : 1 ≤ c .value
-  pub columns : c .value ≤ 16
-  pub steps : m .value ≤ 128
+  pub columns : c .value ≤ limits .columns
+  pub steps : m .value ≤ limits .steps
   pub complete : (f .here ≡ true) × (c .here ≡ true) × (m .here ≡ true)
 
 pub header-fine : (f c m : Field) → judged (headerPart f c m) ≡ 0 → HeaderFine f c m
 unfolding headerPart
 header-fine f c m h =
     let a = first-fine (entry 4 f 2 (outside 1 1 (f .value))) _ (omega arith) h in
-    let b = first-fine (entry 5 c 3 (outside 1 16 (c .value))) _ (omega arith) (a .1) in
-    let d = first-fine (entry 8 m 3 (outside 0 128 (m .value))) _ (omega arith) (b .1) in
+    let b = first-fine (entry 5 c 3 (outside 1 (limits .columns) (c .value))) _ (omega arith) (a .1) in
+    let d = first-fine (entry 8 m 3 (outside 0 (limits .steps) (m .value))) _ (omega arith) (b .1) in
     let x = inside-means 1 1 (f .value) (a .0 .1) in
-    let y = inside-means 1 16 (c .value) (b .0 .1) in
-    let z = inside-means 0 128 (m .value) (d .0 .1) in
+    let y = inside-means 1 (limits .columns) (c .value) (b .0 .1) in
+    let z = inside-means 0 (limits .steps) (m .value) (d .0 .1) in
     record { form = omega arith; some = omega arith; columns = omega arith; steps = omega arith; complete = (a .0 .0, b .0 .0, d .0 .0) }
 
 -- ---- the parts of a sheet, judged one after the other, wherever the fields come from
@@ -44,10 +44,10 @@ module _ (f c m : Field) where
   formE = entry 4 f 2 (outside 1 1 (f .value)) ∷ []
 
   abbrev columnsE : List Entry
-  columnsE = entry 5 c 3 (outside 1 16 (c .value)) ∷ []
+  columnsE = entry 5 c 3 (outside 1 (limits .columns) (c .value)) ∷ []
 
   abbrev stepsE : List Entry
-  stepsE = entry 8 m 3 (outside 0 128 (m .value)) ∷ []
+  stepsE = entry 8 m 3 (outside 0 (limits .steps) (m .value)) ∷ []
 
   pub form-bad : {r : ℕ} → r ≡ judged formE → (r ≡ 0 → ⊥) → r ≡ judged (headerPart f c m)
   unfolding headerPart
@@ -63,7 +63,7 @@ module _ (f c m : Field) where
 
 module _ (c : ℕ → ColumnFields) (i : ℕ) where
   abbrev sizeE : List Entry
-  sizeE = entry 6 (c i .size) 4 (outside 1 32 (c i .size .value)) ∷ []
+  sizeE = entry 6 (c i .size) 4 (outside 1 (limits .positions) (c i .size .value)) ∷ []
 
   abbrev startE : ℕ → List Entry
   startE size = entry 5 (c i .start) 5 (leb size (c i .start .value)) ∷ []

@@ -7,7 +7,7 @@ use lib.Dec.{ltb}
 use Rattle.task.specs.declared.Model.{Model}
 use Rattle.task.specs.declared.Mark.{Mark}
 use Rattle.task.specs.Loops.{tab, over}
-use Rattle.task.specs.Sizes.{limits}
+use Rattle.task.specs.Sizes.{limits, stepPlaces}
 use Rattle.task.specs.Task.{Task, ColumnEntry, Change, StepEntry, position}
 use Rattle.task.specs.Tables.{mark, marked}
 use Rattle.fields.specs.Judging.{Field}
@@ -30,12 +30,12 @@ taskIn p = record { columns = tab (columnsIn p) (columnSaid (p .column)); steps 
 unfoldable pub unused : {A : Type 0} → ℕ → A → List A
 unused places a = replicate places a
 
--- place k of a table of marks: the mark of step k / 16 at column k % 16, or none past the n columns
+-- place k of a table of marks: by step and column, each step with a place for every column that a model can have; or none past the n columns
 unfoldable pub markPlace : (ℕ → ℕ → ℕ) → ℕ → ℕ → Mark
 markPlace f n k = cond (ltb (k % limits .columns) n) (mark (f (k / limits .columns) (k % limits .columns))) (mark 0)
 
 unfoldable pub markTable : (ℕ → ℕ → ℕ) → ℕ → ℕ → List Mark
-markTable f n m = over (tab (m * limits .columns) (markPlace f n)) (unused (limits .steps * limits .columns) (mark 0))
+markTable f n m = over (tab (m * limits .columns) (markPlace f n)) (unused stepPlaces (mark 0))
 
 unfoldable pub modelOf : Source → Model
 modelOf p =
@@ -60,8 +60,8 @@ noModel =
       start = unused (limits .columns) (position 0);
       goal = unused (limits .columns) (mark 0);
       cost = unused (limits .steps) 0;
-      need = unused (limits .steps * limits .columns) (mark 0);
-      effect = unused (limits .steps * limits .columns) (mark 0);
+      need = unused stepPlaces (mark 0);
+      effect = unused stepPlaces (mark 0);
     }
 
 -- the task that a sheet holds

@@ -1,7 +1,7 @@
 // The model that a sheet holds, in the task's own tables.
 ghost use mathlib.Core.Path.{_≡_};
 ghost use Prim.Native.Nat.{_+_, _*_, _≤_, _<_};
-ghost use Rattle.task.specs.Sizes.{limits};
+ghost use Rattle.task.specs.Sizes.{limits, stepPlaces};
 ghost use Rattle.task.specs.Loops.{tab, over};
 ghost use Rattle.task.specs.Tables.{mark};
 ghost use Rattle.task.specs.Task.{position};
@@ -76,7 +76,7 @@ fn costs(s: &[u8], n: usize, m: usize) -> [u16; Model::STEPS]
 
 // The mark at a place of a table of marks: `skip` is 0 for needs and 6 for effects.
 fn mark_at(s: &[u8], n: usize, skip: usize, k: usize) -> Mark
-    requires { ⌜ (n ≤ limits .columns) × (skip ≤ 6) × (k < limits .steps * limits .columns) ⌝ }
+    requires { ⌜ (n ≤ limits .columns) × (skip ≤ 6) × (k < stepPlaces) ⌝ }
     ensures { λ r. ⌜ r ≡ markPlace (markOn (now (s .entry)) n skip) n k ⌝ }
 {
     let i = k % Model::COLUMNS;

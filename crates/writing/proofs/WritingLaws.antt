@@ -1,11 +1,12 @@
 -- Writing a sheet, field after field, and the two ways that it ends.
-use Prim.Native.Nat.{ℕ, zero, suc, _*_, _≤_, _<_}
+use Prim.Native.Nat.{ℕ, zero, suc, _*_, _^_, _≤_, _<_}
 use native.Mathlib.Nat.{mul-le-mul}
 use native.Mathlib.Omega.{arith}
 use mathlib.Core.Path.{_≡_, refl, sym, ap, ap₂, _∙_}
 use mathlib.Core.List.{List, [], _∷_, _++_}
 use lib.ListN.{length}
 use borrow.Author.Tests.{eq-eqb, lt-ltb, le-ltb}
+use Rattle.task.specs.Sizes.{limits}
 use Rattle.task.specs.Loops.{over}
 use Rattle.fields.specs.Bits.{putField}
 use Rattle.fields.specs.Judging.{given, inTable, outside, _then_, refusal, judged, each}
@@ -22,8 +23,8 @@ use Rattle.writing.specs.declared.write.SheetWritten.the-variants.{Sheet
 use Rattle.writing.specs.Writing.{outcome, writing}
 
 -- the rows of a model's marks lie low
-pub row-le : (n j : ℕ) → n ≤ 16 → j < 128 → j * (n * 2) ≤ 4096
-row-le n j hn hj = omega (arith, mul-le-mul {n₁ = j} {m₁ = n * 2} {n₂ = 128} {m₂ = 32} (omega arith) (omega arith))
+pub row-le : (n j : ℕ) → n ≤ limits .columns → j < limits .steps → j * (n * 2) ≤ limits .steps * (limits .columns * 2)
+row-le n j hn hj = omega (arith, mul-le-mul {n₁ = j} {m₁ = n * 2} {n₂ = limits .steps} {m₂ = limits .columns * 2} (omega arith) (omega arith))
 
 -- ---- a writer's fill is 0
 put-fill : (b : ℕ) (l : List ℕ) → putField b (fillBits b) 0 l ≡ packed b (fillPart b (given 0)) l
@@ -94,14 +95,14 @@ module _ (p : Source) (l : List ℕ) where
     unfolding writeChecks
     accepted-write h = sym (last-went (entries p) (tooFew bytes l ∷ []) e z (passes 8 _ [] (le-ltb (length l) bytes h) no-checks))
 
-    pub put-written : ((j : ℕ) → j < stepsIn p → p .cost j .value < 65536) → Bytes l → {b : ℕ} {t : List ℕ} → b ≡ bytes → bytes ≤ length l → t ≡ packed 0 (entries p) l → outcome (Sheet b) t ≡ writing p l
+    pub put-written : ((j : ℕ) → j < stepsIn p → p .cost j .value < 2 ^ 16) → Bytes l → {b : ℕ} {t : List ℕ} → b ≡ bytes → bytes ≤ length l → t ≡ packed 0 (entries p) l → outcome (Sheet b) t ≡ writing p l
     unfolding writing over entries
     put-written costs bl {b} {t} q h et =
         simp (eq-eqb (refusal (writeChecks p l)) 0 (accepted-write h))
         (λ k. outcome (Sheet (q k)) ((et ∙ packed-over (entries p) bytes (fits p (sym e ∙ z) costs) (sheet-bits p (columnsIn p) (stepsIn p) ∙ whole-bytes (columnsIn p) (stepsIn p)) l bl h) k))
 
 -- the counts of an accepted model
-pub given-fine : (n m : ℕ) (frame costs marks : List ℕ) → judged (entries (ofTables n m frame costs marks)) ≡ 0 → (n ≤ 16) × (m ≤ 128)
+pub given-fine : (n m : ℕ) (frame costs marks : List ℕ) → judged (entries (ofTables n m frame costs marks)) ≡ 0 → (n ≤ limits .columns) × (m ≤ limits .steps)
 unfolding entries ofTables
 given-fine n m frame costs marks h =
     let f = header-fine (given 1) (given n) (given m) (parts-fine (ofTables n m frame costs marks) n m h .0) in

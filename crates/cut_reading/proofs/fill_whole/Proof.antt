@@ -1,10 +1,10 @@
 use native.Mathlib.Omega.{arith}
-use Prim.Native.Nat.{_-_, _*_, _≤_}
+use Prim.Native.Nat.{_-_, _≤_}
 use mathlib.Core.Path.{_≡_, sym, ap, _∙_}
 use lib.ListN.{length, length-set}
 use Rattle.fields.proofs.FieldLaws.{read-at}
 use Rattle.task.specs.Loops.{tab, over}
-use Rattle.task.specs.Sizes.{limits}
+use Rattle.task.specs.Sizes.{limits, blockPlaces}
 use Rattle.task.proofs.LoopLaws.{over-none, over-set}
 use Rattle.blocks.specs.Blocks.{every}
 use Rattle.sheets.specs.ModelSheet.{columnsOf}
@@ -19,7 +19,7 @@ use Rattle.cutting.proofs.every_position.Reads as every-position-reads
 use Rattle.fields.proofs.field.field.Reads as field-reads
 
 abbrev Inv-loop : tie.InvT-loop
-Inv-loop model columns sets₀ j₀ sets j = (j ≤ columns) × (columns ≤ limits .columns) × (length sets ≡ limits .blocks * limits .columns) × (sets ≡ over (tab j (wholeOn model)) sets₀)
+Inv-loop model columns sets₀ j₀ sets j = (j ≤ columns) × (columns ≤ limits .columns) × (length sets ≡ blockPlaces) × (sets ≡ over (tab j (wholeOn model)) sets₀)
 
 abbrev μ-loop : tie.MeasureT-loop
 μ-loop model columns sets₀ j₀ sets j = columns - j

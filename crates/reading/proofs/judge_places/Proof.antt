@@ -2,6 +2,7 @@ use Prim.Native.Nat.{_*_}
 use native.Mathlib.Omega.{arith}
 use native.Mathlib.Nat.{mul-le-mul}
 use borrow.Author.Tests.{lt-ltb, le-ltb}
+use Rattle.task.specs.Sizes.{limits}
 use Rattle.fields.proofs.JudgingLaws.{applies, passes, no-checks}
 use borrow.Author.Needs.{needs}
 use Rattle.reading.proofs.judge_places.Statement.{statement}
@@ -26,7 +27,7 @@ mul-if3 c = search needs
 mul-if3-2 : tie.Need-mul-if3-2
 mul-if3-2 c =
     let a = c .before .before .args in
-    omega (arith, mul-le-mul {n₁ = a .m} {m₁ = a .n * 2} {n₂ = 128} {m₂ = 32} (omega arith) (omega arith))
+    omega (arith, mul-le-mul {n₁ = a .m} {m₁ = a .n * 2} {n₂ = limits .steps} {m₂ = limits .columns * 2} (omega arith) (omega arith))
 
 returns-3 : tie.Need-returns-3
 returns-3 c =

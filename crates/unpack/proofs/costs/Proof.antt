@@ -1,6 +1,7 @@
 use Prim.Native.Nat.{ℕ, _-_, _≤_}
 use native.Mathlib.Omega.{arith}
 use mathlib.Core.Path.{_≡_, ap, _∙_, sym}
+use Rattle.task.specs.Sizes.{limits}
 use Rattle.fields.proofs.FieldLaws.{field-lt}
 use Rattle.fields.specs.Bits.{fieldAt}
 use Rattle.task.specs.Loops.{tab, over}
@@ -18,7 +19,7 @@ use Rattle.sheets.proofs.model_bits.Reads as model-bits-reads
 
 abbrev Inv-loop : tie.InvT-loop
 Inv-loop s n m t₀ j₀ t j =
-    (j ≤ m) × (t ≡ over (tab j (tenthsOn s n)) (unused 128 0))
+    (j ≤ m) × (t ≡ over (tab j (tenthsOn s n)) (unused (limits .steps) 0))
 
 abbrev μ-loop : tie.MeasureT-loop
 μ-loop s n m t₀ j₀ t j =
@@ -56,7 +57,7 @@ unfolding tenthsOn
 loop-again c =
     let a = c .before .before .before .before .before .args in
     let l = c .before .before .before .loop in
-    (omega arith, over-set (tenthsOn (a .s .now) (a .n)) (l .j) _ (l .t) (unused 128 0) (l .inv .1) (omega (arith, unused-length {A = ℕ} 128 0)) (c .field .ensures ∙ ap (λ (x : ℕ). fieldAt (a .s .now) x 16) (c .before .model-bits .ensures .0)))
+    (omega arith, over-set (tenthsOn (a .s .now) (a .n)) (l .j) _ (l .t) (unused (limits .steps) 0) (l .inv .1) (omega (arith, unused-length {A = ℕ} (limits .steps) 0)) (c .field .ensures ∙ ap (λ (x : ℕ). fieldAt (a .s .now) x 16) (c .before .model-bits .ensures .0)))
 
 returns : tie.Need-returns Inv-loop μ-loop
 returns c =

@@ -1,6 +1,7 @@
 use Prim.Native.Nat.{ℕ, _+_, _-_, _≤_}
 use native.Mathlib.Omega.{arith}
 use mathlib.Core.Path.{_≡_, ap, sym}
+use Rattle.task.specs.Sizes.{limits}
 use Rattle.fields.proofs.FieldLaws.{field-lt, read-at}
 use Rattle.task.specs.Tables.{mark}
 use Rattle.task.specs.Loops.{tab, over}
@@ -17,7 +18,7 @@ use Rattle.fields.proofs.field.field.Reads as field-reads
 
 abbrev Inv-loop : tie.InvT-loop
 Inv-loop s n t₀ i₀ t i =
-    (i ≤ n) × (t ≡ over (tab i (goalOn s)) (unused 16 (mark 0)))
+    (i ≤ n) × (t ≡ over (tab i (goalOn s)) (unused (limits .columns) (mark 0)))
 
 abbrev μ-loop : tie.MeasureT-loop
 μ-loop s n t₀ i₀ t i =
@@ -58,7 +59,7 @@ unfolding goalOn
 loop-again c =
     let l = c .before .before .before .loop in
     let s = c .before .before .before .before .before .args .s .now in
-    (omega arith, over-set (goalOn s) (l .i) _ (l .t) (unused 16 (mark 0)) (l .inv .1) (omega (arith, unused-length 16 (mark 0))) (ap mark (read-at s 6 (ap (λ (x : ℕ). x + 6 + 5) (c .before .column-bits .ensures .0)) (c .field .ensures))))
+    (omega arith, over-set (goalOn s) (l .i) _ (l .t) (unused (limits .columns) (mark 0)) (l .inv .1) (omega (arith, unused-length (limits .columns) (mark 0))) (ap mark (read-at s 6 (ap (λ (x : ℕ). x + 6 + 5) (c .before .column-bits .ensures .0)) (c .field .ensures))))
 
 returns : tie.Need-returns Inv-loop μ-loop
 returns c =

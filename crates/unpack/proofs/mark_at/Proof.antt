@@ -1,3 +1,4 @@
+use Rattle.task.specs.Sizes.{limits}
 use Rattle.unpack.proofs.UnpackLaws.{mark-there, mark-none}
 use Prim.Native.Nat.{ℕ, _+_, _*_, _%_}
 use native.Mathlib.Omega.{arith}
@@ -34,13 +35,13 @@ field-requires c κs = search needs
 cast-t14 : tie.Need-cast-t14
 cast-t14 c =
     let a = c .before .before .before .before .args in
-    omega (arith, field-lt (a .s .now) (c .before .model-bits .result + 16 + a .k % 16 * 12 + a .skip) 6)
+    omega (arith, field-lt (a .s .now) (c .before .model-bits .result + 16 + a .k % limits .columns * 12 + a .skip) 6)
 
 returns : tie.Need-returns
 unfolding markOn
 returns c =
     let a = c .before .before .before .before .args in
-    mark-there (markOn (a .s .now) (a .n) (a .skip)) (a .n) (a .k) (c .before .before .if1 .taken) (c .field .ensures ∙ ap (λ (x : ℕ). fieldAt (a .s .now) (x + 16 + a .k % 16 * 12 + a .skip) 6) (c .before .model-bits .ensures .0))
+    mark-there (markOn (a .s .now) (a .n) (a .skip)) (a .n) (a .k) (c .before .before .if1 .taken) (c .field .ensures ∙ ap (λ (x : ℕ). fieldAt (a .s .now) (x + 16 + a .k % limits .columns * 12 + a .skip) 6) (c .before .model-bits .ensures .0))
 
 returns-2 : tie.Need-returns-2
 returns-2 c =

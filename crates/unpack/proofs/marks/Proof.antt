@@ -1,6 +1,7 @@
 use Prim.Native.Nat.{_*_, _-_, _≤_}
 use native.Mathlib.Omega.{arith}
 use mathlib.Core.Path.{_≡_, sym}
+use Rattle.task.specs.Sizes.{limits, stepPlaces}
 use Rattle.task.specs.Tables.{mark}
 use Rattle.task.specs.Loops.{tab, over}
 use Rattle.task.proofs.LoopLaws.{over-none, over-set, over-end}
@@ -16,7 +17,7 @@ use Rattle.unpack.proofs.mark_at.Reads as mark-at-reads
 
 abbrev Inv-loop : tie.InvT-loop
 Inv-loop s n m skip end t₀ k₀ t k =
-    (k ≤ end) × (t ≡ over (tab k (markPlace (markOn s n skip) n)) (unused 2048 (mark 0)))
+    (k ≤ end) × (t ≡ over (tab k (markPlace (markOn s n skip) n)) (unused stepPlaces (mark 0)))
 
 abbrev μ-loop : tie.MeasureT-loop
 μ-loop s n m skip end t₀ k₀ t k =
@@ -46,14 +47,14 @@ loop-again : tie.Need-loop-again Inv-loop μ-loop
 loop-again c =
     let a = c .before .before .before .before .args in
     let l = c .before .before .loop in
-    (omega arith, over-set (markPlace (markOn (a .s .now) (a .n) (a .skip)) (a .n)) (l .k) _ (l .t) (unused 2048 (mark 0)) (l .inv .1) (omega (arith, unused-length 2048 (mark 0))) (c .mark-at .ensures))
+    (omega arith, over-set (markPlace (markOn (a .s .now) (a .n) (a .skip)) (a .n)) (l .k) _ (l .t) (unused stepPlaces (mark 0)) (l .inv .1) (omega (arith, unused-length stepPlaces (mark 0))) (c .mark-at .ensures))
 
 returns : tie.Need-returns Inv-loop μ-loop
 unfolding markTable
 returns c =
     let a = c .before .before .before .args in
     let l = c .before .loop in
-    over-end _ _ (l .k) (a .m * 16) (omega arith) (omega arith) (l .inv .1)
+    over-end _ _ (l .k) (a .m * limits .columns) (omega arith) (omega arith) (l .inv .1)
 
 pub marks-spec : {M : Type 1} → statement M
 marks-spec =

@@ -1,6 +1,7 @@
 use Prim.Native.Nat.{ℕ, _-_, _≤_}
 use native.Mathlib.Omega.{arith}
 use mathlib.Core.Path.{_≡_, sym}
+use Rattle.task.specs.Sizes.{limits}
 use Rattle.fields.proofs.FieldLaws.{field-lt, read-at}
 use Rattle.task.specs.Loops.{tab, over}
 use Rattle.task.proofs.LoopLaws.{over-none, over-set, over-end}
@@ -16,7 +17,7 @@ use Rattle.fields.proofs.field.field.Reads as field-reads
 
 abbrev Inv-loop : tie.InvT-loop
 Inv-loop s n t₀ i₀ t i =
-    (i ≤ n) × (t ≡ over (tab i (sizeOn s)) (unused 16 0))
+    (i ≤ n) × (t ≡ over (tab i (sizeOn s)) (unused (limits .columns) 0))
 
 abbrev μ-loop : tie.MeasureT-loop
 μ-loop s n t₀ i₀ t i =
@@ -51,7 +52,7 @@ unfolding sizeOn
 loop-again c =
     let l = c .before .before .before .loop in
     let s = c .before .before .before .before .before .args .s .now in
-    (omega arith, over-set (sizeOn s) (l .i) _ (l .t) (unused 16 0) (l .inv .1) (omega (arith, unused-length {A = ℕ} 16 0)) (read-at s 6 (c .before .column-bits .ensures .0) (c .field .ensures)))
+    (omega arith, over-set (sizeOn s) (l .i) _ (l .t) (unused (limits .columns) 0) (l .inv .1) (omega (arith, unused-length {A = ℕ} (limits .columns) 0)) (read-at s 6 (c .before .column-bits .ensures .0) (c .field .ensures)))
 
 returns : tie.Need-returns Inv-loop μ-loop
 returns c =

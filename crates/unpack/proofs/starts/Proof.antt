@@ -1,6 +1,7 @@
 use Prim.Native.Nat.{ℕ, _+_, _-_, _≤_}
 use native.Mathlib.Omega.{arith}
 use mathlib.Core.Path.{_≡_, ap, sym}
+use Rattle.task.specs.Sizes.{limits}
 use Rattle.fields.proofs.FieldLaws.{field-lt, read-at}
 use Rattle.task.specs.Task.{position}
 use Rattle.task.specs.Loops.{tab, over}
@@ -17,7 +18,7 @@ use Rattle.fields.proofs.field.field.Reads as field-reads
 
 abbrev Inv-loop : tie.InvT-loop
 Inv-loop s n t₀ i₀ t i =
-    (i ≤ n) × (t ≡ over (tab i (startOn s)) (unused 16 (position 0)))
+    (i ≤ n) × (t ≡ over (tab i (startOn s)) (unused (limits .columns) (position 0)))
 
 abbrev μ-loop : tie.MeasureT-loop
 μ-loop s n t₀ i₀ t i =
@@ -55,7 +56,7 @@ unfolding startOn
 loop-again c =
     let l = c .before .before .before .loop in
     let s = c .before .before .before .before .before .args .s .now in
-    (omega arith, over-set (startOn s) (l .i) _ (l .t) (unused 16 (position 0)) (l .inv .1) (omega (arith, unused-length 16 (position 0))) (ap position (read-at s 5 (ap (λ (x : ℕ). x + 6) (c .before .column-bits .ensures .0)) (c .field .ensures))))
+    (omega arith, over-set (startOn s) (l .i) _ (l .t) (unused (limits .columns) (position 0)) (l .inv .1) (omega (arith, unused-length (limits .columns) (position 0))) (ap position (read-at s 5 (ap (λ (x : ℕ). x + 6) (c .before .column-bits .ensures .0)) (c .field .ensures))))
 
 returns : tie.Need-returns Inv-loop μ-loop
 returns c =
