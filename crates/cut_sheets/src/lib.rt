@@ -2,11 +2,10 @@
 // scratch array as they are judged, since each is judged by the blocks that those before it made.
 ghost use mathlib.Core.Path.{_≡_};
 ghost use Prim.Native.Nat.{_+_, _*_, _≤_, _<_};
-ghost use lib.ListN.{length, getD};
+ghost use lib.ListN.{length};
 ghost use Rattle.task.specs.Sizes.{limits, blockPlaces};
 ghost use Rattle.task.specs.Task.{Task, columnCount};
-ghost use Rattle.fields.specs.Judging.{judged};
-ghost use Rattle.cut_sheets.specs.CutPart.{cutNamed, cutPart, cutBits, mostCutBits, cutBytes, countOf, cutOn, cutEnd};
+ghost use Rattle.cut_sheets.specs.CutPart.{cutNamed, cutBits, mostCutBits, cutBytes, countOf, cutOn, cutEnd};
 ghost use Rattle.cut_sheets.specs.CutPart.{judgeCutPart, judgeCuts};
 ghost use Rattle.cut_sheets.specs.CutSheet.{cutLent};
 ghost use Rattle.cut_sheets.specs.Judged.{Made, CutJudged, CutsJudged, PartJudged, LentJudged, Readable};

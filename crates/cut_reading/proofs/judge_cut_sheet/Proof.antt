@@ -46,33 +46,61 @@ cast-columns : tie.Need-cast-columns
 cast-columns c = search needs
 
 fill-whole-requires : tie.Need-fill-whole-requires
-fill-whole-requires c κs = ((sym (c .before .before .before .before .before .before .before .judge-sheet .ensures) ∙ c .before .before .before .before .before .before .if1 .left), c .before .field .ensures, c .before .before .before .before .before .before .before .before .before .before .pre)
+fill-whole-requires c κs =
+    let if1-at = c .before .before .before .before .before .before in
+    let judge-sheet-at = if1-at .before in
+    let entry = judge-sheet-at .before .before .before in
+    ((sym (judge-sheet-at .judge-sheet .ensures) ∙ if1-at .if1 .left), c .before .field .ensures, entry .pre)
 
 sub-judge-cut-tail : tie.Need-sub-judge-cut-tail
-sub-judge-cut-tail c = let g = c .before .before .before .before .before .before .before .before .before .before .before .args in
-    front-take (g .model .now) (g .sheet .now) (sym (c .before .before .before .before .at-front .ensures) ∙ not-false (c .before .before .before .before .at-front .result) (c .before .before .before .if3 .left)) .0
+sub-judge-cut-tail c =
+    let at-front-at = c .before .before .before .before in
+    let entry = at-front-at .before .before .before .before .before .before .before in
+    let g = entry .args in
+    front-take (g .model .now) (g .sheet .now)
+    (sym (at-front-at .at-front .ensures) ∙ not-false (at-front-at .at-front .result) (c .before .before .before .if3 .left)) .0
 
 part-judge-cut-tail-start : tie.Need-part-judge-cut-tail-start
-part-judge-cut-tail-start c = let g = c .before .before .before .before .before .before .before .before .before .before .before .args in
-    let h = front-take (g .model .now) (g .sheet .now) (sym (c .before .before .before .before .at-front .ensures) ∙ not-false (c .before .before .before .before .at-front .result) (c .before .before .before .if3 .left)) .0 in
+part-judge-cut-tail-start c =
+    let at-front-at = c .before .before .before .before in
+    let entry = at-front-at .before .before .before .before .before .before .before in
+    let g = entry .args in
+    let h = front-take (g .model .now) (g .sheet .now) (sym (at-front-at .at-front .ensures) ∙ not-false (at-front-at .at-front .result) (c .before .before .before .if3 .left)) .0 in
     search needs
 
 part-judge-cut-tail-end : tie.Need-part-judge-cut-tail-end
-part-judge-cut-tail-end c = let g = c .before .before .before .before .before .before .before .before .before .before .before .args in
-    let h = front-take (g .model .now) (g .sheet .now) (sym (c .before .before .before .before .at-front .ensures) ∙ not-false (c .before .before .before .before .at-front .result) (c .before .before .before .if3 .left)) .0 in
+part-judge-cut-tail-end c =
+    let at-front-at = c .before .before .before .before in
+    let entry = at-front-at .before .before .before .before .before .before .before in
+    let g = entry .args in
+    let h = front-take (g .model .now) (g .sheet .now) (sym (at-front-at .at-front .ensures) ∙ not-false (at-front-at .at-front .result) (c .before .before .before .if3 .left)) .0 in
     search needs
 
 judge-cut-tail-requires : tie.Need-judge-cut-tail-requires
-judge-cut-tail-requires c κs = let g = c .before .before .before .before .before .before .before .before .before .before .before .before .before .args in
-    let k = (sym (c .before .before .before .before .before .before .before .before .before .before .judge-sheet .ensures) ∙ c .before .before .before .before .before .before .before .before .before .if1 .left) in
-    let w = c .before .before .before .before .field .ensures in
-    (columns-small (g .model .now) k w, whole-long (g .model .now) k w (g .sets .now) (c .before .before .before .before .before .before .before .before .before .before .before .before .before .pre) (c .before .before .fill-whole .ensures))
+judge-cut-tail-requires c κs =
+    let field-at = c .before .before .before .before in
+    let if1-at = field-at .before .before .before .before .before in
+    let judge-sheet-at = if1-at .before in
+    let entry = judge-sheet-at .before .before .before in
+    let g = entry .args in
+    let k = (sym (judge-sheet-at .judge-sheet .ensures) ∙ if1-at .if1 .left) in
+    let w = field-at .field .ensures in
+    (columns-small (g .model .now) k w, whole-long (g .model .now) k w (g .sets .now) (entry .pre) (c .before .before .fill-whole .ensures))
 
 returns-4 : tie.Need-returns-4
-returns-4 c = let g = c .before .before .before .before .before .before .before .before .before .before .before .before .before .before .args in
-    let k = (sym (c .before .before .before .before .before .before .before .before .before .before .before .judge-sheet .ensures) ∙ c .before .before .before .before .before .before .before .before .before .before .if1 .left) in
-    let w = c .before .before .before .before .before .field .ensures in
-    ends (g .model .now) (g .sheet .now) _ k (wide (g .model .now) k w) (sym (c .before .before .before .before .before .before .before .at-front .ensures) ∙ not-false (c .before .before .before .before .before .before .before .at-front .result) (c .before .before .before .before .before .before .if3 .left)) (rest-all (g .sheet .now) (length (g .model .now)))
+returns-4 c =
+    let field-at = c .before .before .before .before .before in
+    let if3-at = field-at .before in
+    let at-front-at = if3-at .before in
+    let if1-at = at-front-at .before .before .before in
+    let judge-sheet-at = if1-at .before in
+    let entry = judge-sheet-at .before .before .before in
+    let g = entry .args in
+    let k = (sym (judge-sheet-at .judge-sheet .ensures) ∙ if1-at .if1 .left) in
+    let w = field-at .field .ensures in
+    ends (g .model .now) (g .sheet .now) _ k (wide (g .model .now) k w)
+    (sym (at-front-at .at-front .ensures) ∙ not-false (at-front-at .at-front .result) (if3-at .if3 .left))
+    (rest-all (g .sheet .now) (length (g .model .now)))
     (c .judge-cut-tail .ensures (taskOn (g .model .now)) (wide (g .model .now) k w) (whole-block (g .model .now) k w _ (g .sets .now) (c .before .before .before .fill-whole .ensures)))
 
 pub judge-cut-sheet-spec : {M : Type 1} → statement M

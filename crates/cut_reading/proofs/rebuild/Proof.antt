@@ -48,10 +48,16 @@ same-length : tie.Need-same-length
 same-length c = search needs
 
 returns-3 : tie.Need-returns-3
-returns-3 c = let g = c .before .before .before .before .before .before .before .before .before .before .before .before .before .args in
-    let j = c .before .before .before .before .before .before .before .before .judge-cut-sheet .ensures in
-    let z = c .before .before .before .before .before .before .before .if1 .left in
-    filled (g .model .now) (g .sheet .now) (g .cuts .now) j z (part-is (g .model .now) (g .sheet .now) (g .cuts .now) j z) (c .before .before .before .before .before .cut-count .ensures .0) (omega arith) (c .before .before .fill-cuts .ensures)
+returns-3 c =
+    let cut-count-at = c .before .before .before .before .before in
+    let if1-at = cut-count-at .before .before in
+    let judge-cut-sheet-at = if1-at .before in
+    let entry = judge-cut-sheet-at .before .before .before .before .before in
+    let g = entry .args in
+    let j = judge-cut-sheet-at .judge-cut-sheet .ensures in
+    let z = if1-at .if1 .left in
+    filled (g .model .now) (g .sheet .now) (g .cuts .now) j z (part-is (g .model .now) (g .sheet .now) (g .cuts .now) j z)
+    (cut-count-at .cut-count .ensures .0) (omega arith) (c .before .before .fill-cuts .ensures)
 
 pub rebuild-spec : {M : Type 1} → statement M
 rebuild-spec =

@@ -28,10 +28,14 @@ judge-lent-cuts-requires c κs = let m = c .before .before .before .before .befo
     (omega arith, few-columns m e z, first-long m e z _ refl (c .before .fill-first .ensures))
 
 returns-3 : tie.Need-returns-3
-returns-3 c = let g = c .before .before .before .before .before .before .before .before .before .before .args in
+returns-3 c =
+    let if1-at = c .before .before .before .before .before .before in
+    let unpack-model-at = if1-at .before in
+    let entry = unpack-model-at .before .before .before in
+    let g = entry .args in
     let m = g .model .now in
-    let e = c .before .before .before .before .before .before .before .unpack-model .ensures in
-    let z = c .before .before .before .before .before .before .if1 .left in
+    let e = unpack-model-at .unpack-model .ensures in
+    let z = if1-at .if1 .left in
     given-cuts m (g .count) (g .cuts .now) e z
     (lent-judged (taskOn m) (g .count) (g .cuts .now) (omega arith) (c .judge-lent-cuts .ensures (taskOn m) (given-columns m e z) (first-block m e z _ _ (c .before .before .fill-first .ensures))))
 

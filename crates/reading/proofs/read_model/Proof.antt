@@ -42,30 +42,52 @@ judge-places-requires c κs =
 
 returns-2 : tie.Need-returns-2
 returns-2 c =
-    let a = c .before .before .before .before .before .before .before .before .before .before .args in
-    places-refused (a .sheet .now) (a .frame .now) (a .costs .now) (a .marks .now) (sym (c .before .before .before .before .before .judge-sheet .ensures) ∙ c .before .before .before .before .if1 .left) (c .before .before .before .field .ensures) (c .before .before .field2 .ensures) (c .before .judge-places .ensures) (c .if2 .taken)
+    let if1-at = c .before .before .before .before in
+    let judge-sheet-at = if1-at .before in
+    let entry = judge-sheet-at .before .before .before .before .before in
+    let a = entry .args in
+    places-refused (a .sheet .now) (a .frame .now) (a .costs .now) (a .marks .now) (sym (judge-sheet-at .judge-sheet .ensures) ∙ if1-at .if1 .left)
+    (c .before .before .before .field .ensures) (c .before .before .field2 .ensures) (c .before .judge-places .ensures) (c .if2 .taken)
 
 fill-frame-requires : tie.Need-fill-frame-requires
 fill-frame-requires c κs =
-    let a = c .before .before .before .before .before .before .before .before .before .before .before .args in
-    let h = part-fine (a .sheet .now) (sheet-fine (a .sheet .now) (sym (c .before .before .before .before .before .before .judge-sheet .ensures) ∙ c .before .before .before .before .before .if1 .left) .0) in
-    let e = enough (a .sheet .now) (a .frame .now) (a .costs .now) (a .marks .now) (sym (c .before .before .before .before .before .before .judge-sheet .ensures) ∙ c .before .before .before .before .before .if1 .left) (c .before .before .before .before .field .ensures) (c .before .before .before .field2 .ensures) (c .before .before .judge-places .ensures) (c .before .if2 .left) in
+    let field-at = c .before .before .before .before in
+    let if1-at = field-at .before in
+    let judge-sheet-at = if1-at .before in
+    let entry = judge-sheet-at .before .before .before .before .before in
+    let a = entry .args in
+    let h = part-fine (a .sheet .now) (sheet-fine (a .sheet .now) (sym (judge-sheet-at .judge-sheet .ensures) ∙ if1-at .if1 .left) .0) in
+    let e = enough (a .sheet .now) (a .frame .now) (a .costs .now) (a .marks .now) (sym (judge-sheet-at .judge-sheet .ensures) ∙ if1-at .if1 .left) (field-at .field .ensures) (c .before .before .before .field2 .ensures) (c .before .before .judge-places .ensures) (c .before .if2 .left) in
     omega (arith, h .columns, h .steps, e .0, e .1, e .2)
 
 fill-costs-requires : tie.Need-fill-costs-requires
 fill-costs-requires c κs =
-    let j = c .before .before .before .before .before .before .before .before .before .before .judge-sheet .ensures in
-    let a = c .before .before .before .before .before .before .before .before .before .before .before .before .before .before .before .args in
-    let h = part-fine (a .sheet .now) (sheet-fine (a .sheet .now) (sym j ∙ c .before .before .before .before .before .before .before .before .before .if1 .left) .0) in
-    let e = enough (a .sheet .now) (a .frame .now) (a .costs .now) (a .marks .now) (sym j ∙ c .before .before .before .before .before .before .before .before .before .if1 .left) (c .before .before .before .before .before .before .before .before .field .ensures) (c .before .before .before .before .before .before .before .field2 .ensures) (c .before .before .before .before .before .before .judge-places .ensures) (c .before .before .before .before .before .if2 .left) in
+    let if2-at = c .before .before .before .before .before in
+    let judge-places-at = if2-at .before in
+    let field2-at = judge-places-at .before in
+    let field-at = field2-at .before in
+    let if1-at = field-at .before in
+    let judge-sheet-at = if1-at .before in
+    let entry = judge-sheet-at .before .before .before .before .before in
+    let j = judge-sheet-at .judge-sheet .ensures in
+    let a = entry .args in
+    let h = part-fine (a .sheet .now) (sheet-fine (a .sheet .now) (sym j ∙ if1-at .if1 .left) .0) in
+    let e = enough (a .sheet .now) (a .frame .now) (a .costs .now) (a .marks .now) (sym j ∙ if1-at .if1 .left) (field-at .field .ensures) (field2-at .field2 .ensures) (judge-places-at .judge-places .ensures) (if2-at .if2 .left) in
     omega (arith, h .columns, h .steps, e .0, e .1, e .2)
 
 fill-marks-requires : tie.Need-fill-marks-requires
 fill-marks-requires c κs =
-    let j = c .before .before .before .before .before .before .before .before .before .before .before .before .before .before .judge-sheet .ensures in
-    let a = c .before .before .before .before .before .before .before .before .before .before .before .before .before .before .before .before .before .before .before .args in
-    let h = part-fine (a .sheet .now) (sheet-fine (a .sheet .now) (sym j ∙ c .before .before .before .before .before .before .before .before .before .before .before .before .before .if1 .left) .0) in
-    let e = enough (a .sheet .now) (a .frame .now) (a .costs .now) (a .marks .now) (sym j ∙ c .before .before .before .before .before .before .before .before .before .before .before .before .before .if1 .left) (c .before .before .before .before .before .before .before .before .before .before .before .before .field .ensures) (c .before .before .before .before .before .before .before .before .before .before .before .field2 .ensures) (c .before .before .before .before .before .before .before .before .before .before .judge-places .ensures) (c .before .before .before .before .before .before .before .before .before .if2 .left) in
+    let if2-at = c .before .before .before .before .before .before .before .before .before in
+    let judge-places-at = if2-at .before in
+    let field2-at = judge-places-at .before in
+    let field-at = field2-at .before in
+    let if1-at = field-at .before in
+    let judge-sheet-at = if1-at .before in
+    let entry = judge-sheet-at .before .before .before .before .before in
+    let j = judge-sheet-at .judge-sheet .ensures in
+    let a = entry .args in
+    let h = part-fine (a .sheet .now) (sheet-fine (a .sheet .now) (sym j ∙ if1-at .if1 .left) .0) in
+    let e = enough (a .sheet .now) (a .frame .now) (a .costs .now) (a .marks .now) (sym j ∙ if1-at .if1 .left) (field-at .field .ensures) (field2-at .field2 .ensures) (judge-places-at .judge-places .ensures) (if2-at .if2 .left) in
     omega (arith, h .columns, h .steps, e .0, e .1, e .2)
 
 same-length : tie.Need-same-length
@@ -79,8 +101,19 @@ same-length-3 c = search needs
 
 returns-3 : tie.Need-returns-3
 returns-3 c =
-    let a = c .before .before .before .before .before .before .before .before .before .before .before .before .before .before .before .before .before .before .before .before .before .before .args in
-    held (a .sheet .now) (a .frame .now) (a .costs .now) (a .marks .now) (sym (c .before .before .before .before .before .before .before .before .before .before .before .before .before .before .before .before .before .judge-sheet .ensures) ∙ c .before .before .before .before .before .before .before .before .before .before .before .before .before .before .before .before .if1 .left) (c .before .before .before .before .before .before .before .before .before .before .before .before .before .before .before .field .ensures) (c .before .before .before .before .before .before .before .before .before .before .before .before .before .before .field2 .ensures) (c .before .before .before .before .before .before .before .before .before .before .before .before .before .judge-places .ensures) (c .before .before .before .before .before .before .before .before .before .before .before .before .if2 .left) (c .before .before .before .before .before .before .before .before .before .before .fill-frame .ensures) (c .before .before .before .before .before .before .fill-costs .ensures) (c .before .before .fill-marks .ensures)
+    let fill-costs-at = c .before .before .before .before .before .before in
+    let fill-frame-at = fill-costs-at .before .before .before .before in
+    let if2-at = fill-frame-at .before .before in
+    let judge-places-at = if2-at .before in
+    let field2-at = judge-places-at .before in
+    let field-at = field2-at .before in
+    let if1-at = field-at .before in
+    let judge-sheet-at = if1-at .before in
+    let entry = judge-sheet-at .before .before .before .before .before in
+    let a = entry .args in
+    held (a .sheet .now) (a .frame .now) (a .costs .now) (a .marks .now) (sym (judge-sheet-at .judge-sheet .ensures) ∙ if1-at .if1 .left)
+    (field-at .field .ensures) (field2-at .field2 .ensures) (judge-places-at .judge-places .ensures) (if2-at .if2 .left)
+    (fill-frame-at .fill-frame .ensures) (fill-costs-at .fill-costs .ensures) (c .before .before .fill-marks .ensures)
 
 pub read-model-spec : {M : Type 1} → statement M
 read-model-spec =

@@ -81,11 +81,18 @@ judge-field-requires c κs = search needs
 returns-4 : tie.Need-returns-4
 unfolding sheetWith
 returns-4 c =
-    let s = c .before .before .before .before .before .before .before .before .before .before .before .args .s .now in
-    let n = c .before .before .before .before .before .before .before .field .result in
-    let m = c .before .before .before .before .before .before .field2 .result in
-    part-done s (c .before .before .before .before .before .before .before .field .ensures) (c .before .before .before .before .before .before .field2 .ensures)
-    (part-fill (sheetWith s n m) n m (c .before .before .before .before .before .before .before .before .before .judge-header .ensures) (c .before .before .before .before .before .before .before .before .if1 .left) (c .before .before .before .before .before .judge-columns .ensures) (c .before .before .before .before .if2 .left) (c .before .before .before .judge-steps .ensures) (c .before .before .if3 .left) (fill-at s (c .before .model-bits .ensures .0) (c .judge-field .ensures)))
+    let if2-at = c .before .before .before .before in
+    let judge-columns-at = if2-at .before in
+    let field2-at = judge-columns-at .before in
+    let field-at = field2-at .before in
+    let if1-at = field-at .before in
+    let judge-header-at = if1-at .before in
+    let entry = judge-header-at .before .before in
+    let s = entry .args .s .now in
+    let n = field-at .field .result in
+    let m = field2-at .field2 .result in
+    part-done s (field-at .field .ensures) (field2-at .field2 .ensures)
+    (part-fill (sheetWith s n m) n m (judge-header-at .judge-header .ensures) (if1-at .if1 .left) (judge-columns-at .judge-columns .ensures) (if2-at .if2 .left) (c .before .before .before .judge-steps .ensures) (c .before .before .if3 .left) (fill-at s (c .before .model-bits .ensures .0) (c .judge-field .ensures)))
 
 pub judge-part-spec : {M : Type 1} → statement M
 judge-part-spec =

@@ -30,7 +30,10 @@ same-length c = search needs
 returns : tie.Need-returns
 unfolding packed headerPart
 returns c =
-    put-next 8 (c .before .before .put-field3 .ensures) refl refl (put-next 5 (c .before .before .before .before .before .before .put-field2 .ensures) refl refl (put-next 4 (c .before .before .before .before .before .before .before .before .before .before .put-field .ensures) refl refl refl))
+    let put-field2-at = c .before .before .before .before .before .before in
+    let put-field-at = put-field2-at .before .before .before .before in
+    put-next 8 (c .before .before .put-field3 .ensures) refl refl
+    (put-next 5 (put-field2-at .put-field2 .ensures) refl refl (put-next 4 (put-field-at .put-field .ensures) refl refl refl))
 
 pub put-header-spec : {M : Type 1} → statement M
 put-header-spec =

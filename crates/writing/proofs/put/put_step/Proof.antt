@@ -54,7 +54,8 @@ loop-again : tie.Need-loop-again Inv-loop μ-loop
 loop-again c =
     let b = c .before .before .before .before .before in
     let l = b .loop in
-    let a = b .before .before .before .before .before .before .before .before .before .before .args in
+    let start = b .before .before .before .before in
+    let a = start .before .before .before .before .before .before .args in
     let k = marksIn (a .marks .now) (a .n) in
     (omega arith, λ f. c .before .before .put-marks .ensures f ∙ packed-more (marksPart f k (a .j)) 12 (marks-bits f k (a .j)) (modelBits (a .n) (a .j) + 16) (l .i) _ (l .inv .1 f))
 

@@ -40,8 +40,18 @@ same-length c = search needs
 returns-3 : tie.Need-returns-3
 unfolding ofTables
 returns-3 c =
-    let a = c .before .before .before .before .before .before .before .before .before .before .before .before .args in
-    put-written (ofTables (a .columns) (a .steps) (a .frame .now) (a .costs .now) (a .marks .now)) (a .sheet .now) (c .before .before .before .before .before .before .before .judge-given .ensures) (c .before .before .before .before .before .before .if1 .left) (λ j l. omega (arith, c .before .before .before .before .before .before .before .before .before .before .shared-slice-known2 .given j)) (λ i. omega (arith, c .before .before .before .before .before .before .before .before .slice-known .given i)) (c .before .before .before .before .before .model-bytes .ensures) (omega (arith, c .before .before .before .before .before .model-bytes .ensures, c .before .before .before .before .if2 .left)) (c .before .before .put-sheet .ensures)
+    let if2-at = c .before .before .before .before in
+    let model-bytes-at = if2-at .before in
+    let if1-at = model-bytes-at .before in
+    let judge-given-at = if1-at .before in
+    let slice-known-at = judge-given-at .before in
+    let shared-slice-known2-at = slice-known-at .before .before in
+    let entry = shared-slice-known2-at .before .before in
+    let a = entry .args in
+    put-written (ofTables (a .columns) (a .steps) (a .frame .now) (a .costs .now) (a .marks .now)) (a .sheet .now) (judge-given-at .judge-given .ensures)
+    (if1-at .if1 .left) (λ j l. omega (arith, shared-slice-known2-at .shared-slice-known2 .given j))
+    (λ i. omega (arith, slice-known-at .slice-known .given i)) (model-bytes-at .model-bytes .ensures)
+    (omega (arith, model-bytes-at .model-bytes .ensures, if2-at .if2 .left)) (c .before .before .put-sheet .ensures)
 
 pub write-model-spec : {M : Type 1} → statement M
 write-model-spec =
