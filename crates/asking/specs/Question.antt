@@ -46,6 +46,9 @@ badStates t bytes =
     || (ltb (limits .states) (statesIn t bytes)
     || not (all (length bytes) (λ i. ltb (getD bytes i 0) (sizeOf t (column (i % columnCount t))))))
 
+abbrev pub stateCheck : Task → List ℕ → Check
+stateCheck t bytes = check 11 (badStates t bytes)
+
 -- the estimate of state k after the cuts, the mark for "no way"
 unfoldable pub estimateAt : Task → List Cut → List ℕ → ℕ → ℕ
 estimateAt t cs states k = Option·getD (estimate t cs (stateIn (columnCount t) states k)) (limits .«no_way»)
@@ -63,7 +66,7 @@ valued v = cond (eqb v (limits .«no_way»)) none (some v)
 -- the given model sheet, the inner model, 10, the cut part, then 11, then 8
 unfoldable pub questionChecks : List ℕ → List ℕ → List ℕ → List ℕ → List Check
 questionChecks model s states estimates =
-    cutSheetChecks model s ++ (check 11 (badStates (taskOn model) states) ∷ tooFew (statesIn (taskOn model) states) estimates ∷ [])
+    cutSheetChecks model s ++ (stateCheck (taskOn model) states ∷ tooFew (statesIn (taskOn model) states) estimates ∷ [])
 
 -- an answer's refusal number; 0 for none
 unfoldable pub number : Asked → ℕ

@@ -2,16 +2,20 @@
 use Prim.Native.Nat.{ℕ, _+_, _-_, _*_, _≤_, _<_}
 use native.Mathlib.Omega.{arith}
 use native.Mathlib.Decide.{ℕ-discrete}
-use mathlib.Core.Path.{_≡_, refl, sym, ap, _∙_, subst}
+use mathlib.Core.Path.{_≡_, refl, sym, ap, ap₂, _∙_, subst}
 use mathlib.Core.Logic.{_⊎_, inl, inr, ⊎-elim}
-use mathlib.Core.List.{List}
+use mathlib.Core.Bool.{Bool, true, false}
+use mathlib.Core.List.{List, [], _∷_}
+use lib.Dec.{ltb}
 use lib.ListN.{length, drop, length-append}
 use borrow.Author.Tests.{eq-eqb, ne-eqb}
 use Rattle.task.specs.declared.Step.{Step}
 use Rattle.task.specs.Loops.{over}
+use Rattle.task.specs.Sizes.{limits}
 use Rattle.task.specs.Task.{Task, Accepted}
-use Rattle.fields.specs.Judging.{refusal}
-use Rattle.fields.proofs.JudgingLaws.{neither, refusal-append}
+use Rattle.task.proofs.LoopLaws.{true-or-false}
+use Rattle.fields.specs.Judging.{check, outside, refusal, _then_}
+use Rattle.fields.proofs.JudgingLaws.{applies, neither, refusal-append, inside-means}
 use Rattle.sheets.specs.ModelSheet.{sheetChecks, judgeSheet}
 use Rattle.sheets.specs.Holding.{taskOn}
 use Rattle.sheets.proofs.HeldTaskLaws.{accepted-task}
@@ -55,6 +59,37 @@ module _ (t : Task) (blocks : ℕ) where
   rows-few room (plan ss) h short = let q = short ss refl in omega arith
   rows-few room noPlan h short = omega arith
   rows-few room («open» e) h short = omega arith
+
+-- ---- lists of other lengths are judged alike where for every room that there is they have the places
+module _ (s : List ℕ) (room : ℕ) (c r c′ r′ : List ℕ) where
+  -- whether a list has too few places
+  abbrev few : List ℕ → Bool
+  few l = ltb (length l) ((room - 1) * 3)
+
+  module _ (same : room ≤ limits .blocks → (few c ≡ few c′) × (few r ≡ few r′)) where
+    abbrev RoomSame : Type 0
+    RoomSame = refusal (roomChecks room c r) ≡ refusal (roomChecks room c′ r′)
+
+    abbrev out : Bool
+    out = outside 1 (limits .blocks) room
+
+    room-same : RoomSame
+    unfolding roomChecks
+    room-same = ⊎-elim bad good (true-or-false out)
+      where
+        bad : out ≡ true → refusal (check 7 out ∷ check 8 (few c) ∷ check 8 (few r) ∷ []) ≡ refusal (check 7 out ∷ check 8 (few c′) ∷ check 8 (few r′) ∷ [])
+        bad h = sym (applies 7 out _ h (λ z. omega arith)) ∙ applies 7 out _ h (λ z. omega arith)
+
+        good : out ≡ false → refusal (check 7 out ∷ check 8 (few c) ∷ check 8 (few r) ∷ []) ≡ refusal (check 7 out ∷ check 8 (few c′) ∷ check 8 (few r′) ∷ [])
+        good h =
+            let e = same (inside-means 1 (limits .blocks) room h .1) in
+            ap₂ (λ (x y : Bool). refusal (check 7 out ∷ check 8 x ∷ check 8 y ∷ [])) (e .0) (e .1)
+
+    pub lists-same : refusal (runChecks s room c r) ≡ refusal (runChecks s room c′ r′)
+    unfolding runChecks
+    lists-same =
+        refusal-append (sheetChecks s) (roomChecks room c r) ∙ ap (λ (x : ℕ). refusal (sheetChecks s) then x) room-same
+        ∙ sym (refusal-append (sheetChecks s) (roomChecks room c′ r′))
 
 -- ---- a run and its outcome
 module _ (s : List ℕ) (room : ℕ) (c r : List ℕ) where

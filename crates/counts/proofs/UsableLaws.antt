@@ -1,5 +1,5 @@
 -- Places that can matter: all that are lent, or as many as can be used.
-use Prim.Native.Nat.{ℕ, _*_, _≤_, _<_}
+use Prim.Native.Nat.{ℕ, _*_, _/_, _≤_, _<_}
 use native.Mathlib.Omega.{arith}
 use native.Mathlib.Decide.{decLt}
 use mathlib.Core.Path.{_≡_, sym, ap, _∙_}
@@ -49,8 +49,8 @@ same-test a b c d f g = split (decLt a b)
 pub part-long : {A : Type 0} (most places : ℕ) (list : List A) {k : ℕ} → length list ≡ most * 3 → k ≡ usable most places → length (take (k * 3) list) ≡ usable most places * 3
 part-long most places list {k} l e = length-take-le (k * 3) list (omega (arith, at-most most places e)) ∙ ap (λ (x : ℕ). x * 3) e
 
--- whether k places are missing is seen in it
-pub missing-same : (most places k have : ℕ) → k ≤ most → have ≡ usable most places * 3 → ltb places k ≡ ltb have (k * 3)
-missing-same most places k have h e =
+-- whether k places are missing is seen in it: of n values as many are whole places as n has threes
+pub missing-same : (most places k n have : ℕ) → k ≤ most → n / 3 ≡ places → have ≡ usable most places * 3 → ltb n (k * 3) ≡ ltb have (k * 3)
+missing-same most places k n have h w e =
     let u = usable-is most places in
-    same-test places k have (k * 3) (λ p. omega (arith, u .there)) (λ p. let q = u .enough k h p in omega arith)
+    same-test n (k * 3) have (k * 3) (λ p. omega (arith, u .there)) (λ p. let q = u .enough k h (omega arith) in omega arith)

@@ -1,8 +1,8 @@
 -- 01, "Refusal numbers", of rebuilding and of writing cuts: a number is returned exactly when its row applies and no earlier check does, and a
 -- refusal leaves everything lent as found. The checks, in 01's order, are `rebuildChecks` and `writeCutsChecks`.
 use Prim.Native.Nat.{ℕ, _+_}
-use mathlib.Core.Path.{refl}
-use mathlib.Core.List.{List, [], _∷_, _++_}
+use mathlib.Core.Path.{refl, subst}
+use mathlib.Core.List.{List, [], _∷_, _++_, append-nil}
 use lib.ListN.{length}
 use Rattle.task.specs.Loops.{over}
 use Rattle.task.specs.Task.{Task}
@@ -19,34 +19,40 @@ use Rattle.cut_reading.specs.Rebuilding.{Outcome, outcome, number, rebuilding}
 use Rattle.cut_writing.specs.declared.CutsWritten.the-variants.{Sheet, Refused as NotWritten}
 use Rattle.cut_writing.specs.CutWriting.{Outcome as Written, outcome as written, number as writeNumber, writingCuts}
 
--- which numbers whoever writes cuts can get, and whoever rebuilds them
-abbrev pub cutNumbers : List ℕ
-cutNumbers = 1 ∷ 2 ∷ 3 ∷ 4 ∷ 5 ∷ 6 ∷ 8 ∷ 9 ∷ []
+-- which numbers the fields of a cut part can get; both sheets; whoever rebuilds cuts, and whoever writes them
+abbrev pub partNumbers : List ℕ
+partNumbers = 1 ∷ 2 ∷ 6 ∷ 9 ∷ []
+
+abbrev pub sheetsNumbers : List ℕ
+sheetsNumbers = numbers ++ (10 ∷ partNumbers)
 
 abbrev pub rebuildNumbers : List ℕ
-rebuildNumbers = 1 ∷ 2 ∷ 3 ∷ 4 ∷ 5 ∷ 6 ∷ 8 ∷ 9 ∷ 10 ∷ []
+rebuildNumbers = sheetsNumbers ++ (8 ∷ [])
 
-part-numbers : (t : Task) (p : CutSource) → Numbers (has cutNumbers) (checksOf (cutEntries t p))
+abbrev pub cutNumbers : List ℕ
+cutNumbers = numbers ++ (partNumbers ++ (8 ∷ []))
+
+part-numbers : (t : Task) (p : CutSource) → Numbers (has partNumbers) (checksOf (cutEntries t p))
 unfolding cutEntries cutFields cutHeader cutPart fillPart checksOf
 part-numbers t p =
     let n = p .count .value in
-    let q = has cutNumbers in
+    let q = has partNumbers in
     fields-append q (H t p n) (C t p n ++ F t p n) refl (fields-append q (C t p n) (F t p n) (fields-each q (cutPart t (p .cut)) n (λ i. refl)) refl)
 
 -- ---- both sheets
-pub sheets-numbers : (model s : List ℕ) → Numbers (has rebuildNumbers) (cutSheetChecks model s)
+pub sheets-numbers : (model s : List ℕ) → Numbers (has sheetsNumbers) (cutSheetChecks model s)
 unfolding cutSheetChecks cutChecks
 sheets-numbers model s =
-    let q = has rebuildNumbers in
+    let q = has sheetsNumbers in
     numbers-append q numbers refl (sheetChecks model) _ (sheet-numbers model)
     (numbers-append q numbers refl (checksOf (entries (ofSheet s))) _ (model-numbers (ofSheet s))
-    (numbers-append q cutNumbers refl (checksOf (cutEntries (taskOn model) (ofCutPart (tailOf s)))) _ (part-numbers (taskOn model) (ofCutPart (tailOf s))) refl))
+    (numbers-append q partNumbers refl (checksOf (cutEntries (taskOn model) (ofCutPart (tailOf s)))) _ (part-numbers (taskOn model) (ofCutPart (tailOf s))) refl))
 
 -- ---- rebuilding
 module _ (model s cuts : List ℕ) where
   pub rebuild-numbers : Numbers (has rebuildNumbers) (rebuildChecks model s cuts)
   unfolding rebuildChecks
-  rebuild-numbers = numbers-append (has rebuildNumbers) rebuildNumbers refl (cutSheetChecks model s) _ (sheets-numbers model s) refl
+  rebuild-numbers = numbers-append (has rebuildNumbers) sheetsNumbers refl (cutSheetChecks model s) _ (sheets-numbers model s) refl
 
   pub rebuilder : Judged (λ (o : Outcome). number (o .answer)) (λ n. outcome (Refused n) cuts) (rebuildChecks model s cuts) (outcome (Cuts (countOf (tailOf s))) (over (cutList s) cuts)) (rebuilding model s cuts)
   unfolding rebuilding number
@@ -58,8 +64,10 @@ module _ (model : List ℕ) (count : ℕ) (cuts sheet : List ℕ) where
   unfolding writeCutsChecks givenChecks
   write-numbers =
       let q = has cutNumbers in
+      let part = checksOf (cutEntries (taskOn model) (ofCuts count cuts)) in
+      let n = numbers-append q partNumbers refl part [] (part-numbers (taskOn model) (ofCuts count cuts)) refl in
       numbers-append q cutNumbers refl (givenChecks model count cuts) _
-      (numbers-append q numbers refl (sheetChecks model) _ (sheet-numbers model) (part-numbers (taskOn model) (ofCuts count cuts))) refl
+      (numbers-append q numbers refl (sheetChecks model) part (sheet-numbers model) (subst (Numbers q) (append-nil part) n)) refl
 
   pub writer : Judged (λ (o : Written). writeNumber (o .answer)) (λ n. written (NotWritten n) sheet) (writeCutsChecks model count cuts sheet)
       (written (Sheet (length model + cutBytes count)) (over (cutSheetOf model count cuts) sheet)) (writingCuts model count cuts sheet)

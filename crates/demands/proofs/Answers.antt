@@ -27,10 +27,11 @@ use Rattle.running.specs.Running.{number, Runs}
 use Rattle.run_laws.proofs.Answers as said
 use Rattle.asking.specs.declared.Asked.the-variants.{Estimates}
 use Rattle.asking.specs.Question as question
-use Rattle.asking.specs.Question.{stateIn, statesIn, badStates, estimateAt, estimatesOf, valued, Asks}
+use Rattle.asking.specs.Question.{stateIn, statesIn, badStates, estimateAt, estimatesOf, valued, questionChecks, Asks}
 use Rattle.question_laws.proofs.Estimates as estimates
-use Rattle.values.specs.Values.{bytesOf, valueOn}
-use Rattle.historian.specs.Entries.{fewPlaces, askChecks, AskOutcome, EntryRuns, EntryAsks}
+use Rattle.sheets.specs.LentTables.{tooFew}
+use Rattle.values.specs.Values.{bytesOf, valueOn, valuesOn}
+use Rattle.historian.specs.Entries.{askChecks, AskOutcome, EntryRuns, EntryAsks}
 use Rattle.demands.proofs.Numbers.{kind, value, value-back}
 use Rattle.demands.proofs.Refusals.{elhavir-question-judged}
 use Rattle.demands.proofs.Entry as entry
@@ -117,8 +118,8 @@ module _ (model s states est : List ℕ) {r : ℕ} {l : List ℕ} (done : EntryA
   quiet : refusal (askChecks model s states est) ≡ 0
   quiet = sym (elhavir-question-judged model s states est done .told) ∙ answered
 
-  parts : (refusal (cutSheetChecks model s) ≡ 0) × (refusal (check 11 (badStates u states) ∷ fewPlaces (statesIn u states) 4 est ∷ []) ≡ 0)
-  unfolding askChecks
+  parts : (refusal (cutSheetChecks model s) ≡ 0) × (refusal (check 11 (badStates u states) ∷ tooFew (statesIn u states) (valuesOn est) ∷ []) ≡ 0)
+  unfolding questionChecks
   parts = neither (refusal (cutSheetChecks model s)) _ (sym (refusal-append (cutSheetChecks model s) _) ∙ quiet)
 
   pub sheets-fine : refusal (cutSheetChecks model s) ≡ 0

@@ -27,11 +27,11 @@ use Rattle.run.proofs.RunLaws.{Cheapest, NoPlan, Right, run-right}
 use Rattle.run.proofs.LengthLaws.{plan-short}
 use Rattle.blocks.specs.Flat.{cutPlace}
 use Rattle.run.specs.Listing.{listed, rowPlace}
-use Rattle.running.specs.Running.{told}
-use Rattle.values.specs.Values.{bytesOf}
+use Rattle.running.specs.Running.{roomChecks, runChecks, told}
+use Rattle.values.specs.Values.{bytesOf, valuesOn}
 use Rattle.historian.specs.Entries.{answerNumber, entryChecks, RunOutcome, madeBytes, EntryRuns}
 use Rattle.demands.proofs.Numbers.{kind, blocks, steps, value, Parts, takes-apart}
-use Rattle.demands.proofs.RefusalNumbers.{entry-low}
+use Rattle.demands.proofs.RefusalNumbers.{run-byte}
 use Rattle.demands.proofs.Refusals.{entry-made, entry-refused}
 use Rattle.run_laws.proofs.Flaws.{OnePerFlaw, one-per-flaw}
 use Rattle.run_laws.proofs.Answers.{none-falls}
@@ -127,7 +127,7 @@ module _ (s : List ℕ) (room : ℕ) (cuts rows₀ : List ℕ) {r : ℕ} {cuts�
   pub kind-refused : (R ≡ 0 → ⊥) → kind r ≡ 0
   kind-refused z =
       let e : r ≡ R = ap (λ (x : RunOutcome). x .answer) (done ∙ entry-refused s room cuts rows₀ z) in
-      omega (arith, entry-low s room cuts rows₀)
+      omega (arith, run-byte s room (valuesOn cuts) (valuesOn rows₀))
 
   -- a run that was made
   pub record Made : Type 0 where
@@ -142,11 +142,11 @@ module _ (s : List ℕ) (room : ℕ) (cuts rows₀ : List ℕ) {r : ℕ} {cuts�
     pub tells : Tells t room made rows₀ r rows′
 
   accepted-model : R ≡ 0 → Accepted t
-  unfolding entryChecks judgeSheet taskOn
+  unfolding runChecks judgeSheet taskOn
   accepted-model z = accepted-task s (neither (refusal (sheetChecks s)) _ (sym (refusal-append (sheetChecks s) _) ∙ z) .0)
 
   room-inside : R ≡ 0 → (1 ≤ room) × (room ≤ 256)
-  unfolding entryChecks
+  unfolding runChecks roomChecks
   room-inside z = inside-means 1 256 room (passed 7 (outside 1 256 room) _ (λ y. omega arith) (neither (refusal (sheetChecks s)) _ (sym (refusal-append (sheetChecks s) _) ∙ z) .1) .0)
 
   -- where no check applies, the run is made

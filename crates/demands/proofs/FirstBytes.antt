@@ -24,7 +24,8 @@ use Rattle.sheet_laws.proofs.Largest.{largest}
 use Rattle.running.specs.declared.Answer.the-variants.{Refused}
 use Rattle.running.specs.Running.{roomCheck}
 use Rattle.lines.specs.Lines.{firstLine, printed, Put, Prints}
-use Rattle.demands.proofs.Printed.{fileChecks, roomIn, sheetIn, runLines, printed-is}
+use Rattle.demands.specs.Files.{roomIn, sheetIn, fileChecks}
+use Rattle.demands.proofs.Printed.{runLines, printed-is}
 
 -- where no field is refused, bytes follow the largest sheet
 follows : (s : List ℕ) → judgePart s ≡ 0 → 3365 < length s → 6 ≡ judgeSheet s

@@ -4,7 +4,7 @@
 -- `put_printed`: they are the line of a refusal with number n exactly when the check of number n is the first that applies, the lines of the run exactly
 -- when none applies, and nothing in the buffer past them is changed. The number is taken from the bytes themselves. And demand 2: where none applies, the
 -- answer printed is right.
-use Prim.Native.Nat.{ℕ, _-_, _≤_}
+use Prim.Native.Nat.{ℕ, _≤_}
 use native.Mathlib.Nat.{zero-add}
 use native.Mathlib.Omega.{arith}
 use mathlib.Core.Path.{_≡_, refl, sym, ap, _∙_, subst}
@@ -12,15 +12,14 @@ use mathlib.Core.Logic.{⊎-elim}
 use mathlib.Core.Bool.{Bool, true, false, cond}
 use mathlib.Core.List.{List, [], _∷_, _++_}
 use lib.Dec.{eqb, ltb}
-use lib.ListN.{length, getD, take, drop}
+use lib.ListN.{length, take, drop}
 use lib.Seq.{take-append-seam, drop-append-seam}
 use borrow.Author.Tests.{eqb-true}
 use Rattle.task.specs.Loops.{first, over}
 use Rattle.task.specs.Sizes.{limits}
 use Rattle.task.specs.Task.{Task, Accepted}
 use Rattle.task.proofs.LoopLaws.{true-or-false}
-use Rattle.fields.specs.Bits.{fieldAt}
-use Rattle.fields.specs.Judging.{Check, check, refusal}
+use Rattle.fields.specs.Judging.{refusal}
 use Rattle.fields.proofs.ExactLaws.{has, Numbers, numbers-append, gives, Judged, judges}
 use Rattle.fields.proofs.JudgingLaws.{applies, passes, passed}
 use Rattle.fields.proofs.PlaceLaws.{puts-over}
@@ -31,23 +30,14 @@ use Rattle.run.specs.Run as run
 use Rattle.run.specs.Run.{plan, noPlan, «open»}
 use Rattle.run.proofs.RunLaws.{Right, run-right}
 use Rattle.running.specs.declared.Answer.the-variants.{Refused}
-use Rattle.running.specs.Running.{roomCheck, told}
+use Rattle.running.specs.Running.{told}
 use Rattle.lines.specs.Lines.{width, decimal, labelled, firstLine, madeLines, ranLines, printed, Prints}
 use Rattle.lines.proofs.LengthLaws.{printed-fits, ran-accepted}
-
--- ---- the checks of a file, in 01's order: 1 where the room's two bytes are not there, the sheet, then 7
-abbrev pub roomIn : List ℕ → ℕ
-roomIn file = fieldAt file 0 16
-
-abbrev pub sheetIn : List ℕ → List ℕ
-sheetIn file = drop 2 file
-
-unfoldable pub fileChecks : List ℕ → List Check
-fileChecks file = check 1 (ltb (length file) 2) ∷ (sheetChecks (sheetIn file) ++ (roomCheck (roomIn file) ∷ []))
+use Rattle.demands.specs.Files.{roomIn, sheetIn, fileChecks, digitsOn, refusalOn}
 
 -- which numbers a file can get
 abbrev pub numbers : List ℕ
-numbers = 1 ∷ 2 ∷ 3 ∷ 4 ∷ 5 ∷ 6 ∷ 7 ∷ []
+numbers = 1 ∷ (sheet.numbers ++ (7 ∷ []))
 
 -- ---- what is seen: a buffer, and how many of its first bytes are printed
 pub record Shown : Type 0 where
@@ -63,10 +53,6 @@ showing lines out = shown (length lines) (over lines out)
 
 abbrev pub textOf : Shown → List ℕ
 textOf o = take (o .count) (o .buffer)
-
--- the refusal number that a text tells: of "refused n" the digit, which is its byte 8; 0 where it does not begin with an r
-unfoldable pub refusalOn : List ℕ → ℕ
-refusalOn text = cond (eqb (getD text 0 0) 114) (getD text 8 0 - 48) 0
 
 text-shown : (lines out : List ℕ) → textOf (showing lines out) ≡ lines
 unfolding over
@@ -110,7 +96,7 @@ module _ (file : List ℕ) where
 
   -- a refusal's line tells its number
   refused-tells : refusalOn (firstLine (Refused R)) ≡ R
-  unfolding refusalOn firstLine labelled decimal width first
+  unfolding refusalOn digitsOn firstLine labelled decimal width first
   refused-tells = eqb-true _ R (gives (λ n. eqb (refusalOn (firstLine (Refused n))) n) numbers refl (fileChecks file) file-numbers)
 
   module _ (out : List ℕ) where

@@ -6,7 +6,7 @@
 -- "Nothing reads or writes outside what was lent, and every call ends" is no theorem here: it is part of what it is to meet a contract, which is a triple
 -- of total correctness over what the types lend and what the `requires` asks, beside any frame (the kit's law `adequate`). No public function has a
 -- `requires`, so it holds of every call.
-use Prim.Native.Nat.{ℕ, _+_, _*_, _/_, _%_, _^_, _≤_, _<_}
+use Prim.Native.Nat.{ℕ, _+_, _*_, _%_, _^_, _≤_, _<_}
 use native.Mathlib.Omega.{arith}
 use mathlib.Core.Path.{_≡_, refl, sym, ap, _∙_, subst}
 use mathlib.Core.Bool.{Bool, true, false, cond}
@@ -57,7 +57,7 @@ use Rattle.run.specs.declared.Row.{Row}
 use Rattle.run.specs.Run as run
 use Rattle.run.specs.Run.{plan, noPlan, «open»}
 use Rattle.blocks.specs.Flat.{cutPlace}
-use Rattle.run.specs.Listing.{listed}
+use Rattle.run.specs.Listing.{listed, rowPlace}
 use Rattle.running.specs.declared.Answer.{Answer}
 use Rattle.running.specs.declared.Answer.the-variants as answer
 use Rattle.running.specs.Running as running
@@ -65,10 +65,9 @@ use Rattle.running.specs.Running.{told}
 use Rattle.rows.specs.Rows as rows
 use Rattle.rows.specs.Rows.{rowChecks, rowRun, RowRuns}
 use Rattle.historian.specs.Entries.{answerNumber, entryChecks, RunOutcome, runOutcome, madeBytes, runEntry, askChecks, AskOutcome, askOutcome, askEntry, EntryRuns, EntryAsks}
-use Rattle.historian.specs.Entries.{fewPlaces}
 use Rattle.historian.specs.ReplayEntry.{replayNumber, replayEntryChecks, ReplayOutcome, replayOutcome, replayEntry, EntryReplays}
-use Rattle.demands.proofs.RefusalNumbers.{sheetNumbers, cutNumbers, rebuildNumbers, questionNumbers, read-gives, write-gives, rebuild-gives, write-cuts-gives, question-gives, ask-numbers, ask-gives, runNumbers, run-gives, row-numbers, row-run-gives, entry-numbers, entry-gives, entry-low}
-use Rattle.demands.proofs.RefusalNumbers.{replayNumbers, replay-gives, replay-entry-numbers, replay-entry-gives, replay-entry-low}
+use Rattle.demands.proofs.RefusalNumbers.{sheetNumbers, read-gives, write-gives, rebuildNumbers, rebuild-gives, cutNumbers, write-cuts-gives}
+use Rattle.demands.proofs.RefusalNumbers.{questionNumbers, question-gives, replayNumbers, replay-gives, replay-byte, runNumbers, run-gives, run-byte}
 
 -- ---- read_model
 module _ (s frame costs marks : List ℕ) {r : ModelRead} {f c m : List ℕ} (done : reading.ReadsModel s frame costs marks r f c m) where
@@ -146,7 +145,7 @@ module _ (s : List ℕ) (room : ℕ) (cuts : List ℕ) (rs : List Row) where
   unfolding rowRun running.number
   row-runner =
       let t = taskOn s in
-      judges _ _ ran.numbers refl (rowChecks s room cuts rs) (row-numbers s room cuts rs) _
+      judges _ _ ran.numbers refl (rowChecks s room cuts rs) (ran.run-numbers s room cuts (listed rowPlace rs)) _
       (ran.told-number t (run.blockCount (run.run t room)) (run.run t room .answer)) refl
 
   module _ {a : Answer} {c : List ℕ} {l : List Row} (done : RowRuns s room cuts rs a c l) where
@@ -154,7 +153,7 @@ module _ (s : List ℕ) (room : ℕ) (cuts : List ℕ) (rs : List Row) where
     row-run-judged = subst (Judged _ _ _ _) (sym done) row-runner
 
     pub row-run-numbers : has runNumbers (running.number a) ≡ true
-    row-run-numbers = ap (has runNumbers) (row-run-judged .told) ∙ row-run-gives s room cuts rs
+    row-run-numbers = ap (has runNumbers) (row-run-judged .told) ∙ run-gives s room cuts (listed rowPlace rs)
 
 -- ---- elhavir_run: an answer of kind 0, below 2^56, is a refusal's number; one of another kind refuses nothing
 abbrev pub refusalIn : ℕ → ℕ
@@ -183,15 +182,16 @@ module _ (s : List ℕ) (room : ℕ) (cuts rs : List ℕ) where
   entry-runner =
       let o = run.run (taskOn s) room in
       let v = answerNumber (told (taskOn s) (run.blockCount o) (o .answer)) in
-      judges _ _ ran.numbers refl (entryChecks s room cuts rs) (entry-numbers s room cuts rs) _ (ap (λ (b : Bool). cond b v 0) (le-ltb v (2 ^ 56) (large (taskOn s) (run.blockCount o) (o .answer))))
-      (ap (λ (b : Bool). cond b R 0) (lt-ltb R (2 ^ 56) (omega (arith, entry-low s room cuts rs))))
+      judges _ _ ran.numbers refl (entryChecks s room cuts rs) (ran.run-numbers s room (valuesOn cuts) (valuesOn rs)) _
+      (ap (λ (b : Bool). cond b v 0) (le-ltb v (2 ^ 56) (large (taskOn s) (run.blockCount o) (o .answer))))
+      (ap (λ (b : Bool). cond b R 0) (lt-ltb R (2 ^ 56) (omega (arith, run-byte s room (valuesOn cuts) (valuesOn rs)))))
 
   module _ {r : ℕ} {c l : List ℕ} (done : EntryRuns s room cuts rs r c l) where
     pub elhavir-run-judged : Judged (λ (o : RunOutcome). refusalIn (o .answer)) (λ n. runOutcome n cuts rs) (entryChecks s room cuts rs) (madeBytes (taskOn s) (run.run (taskOn s) room) cuts rs) (runOutcome r c l)
     elhavir-run-judged = subst (Judged _ _ _ _) (sym done) entry-runner
 
     pub elhavir-run-numbers : has runNumbers (refusalIn r) ≡ true
-    elhavir-run-numbers = ap (has runNumbers) (elhavir-run-judged .told) ∙ entry-gives s room cuts rs
+    elhavir-run-numbers = ap (has runNumbers) (elhavir-run-judged .told) ∙ run-gives s room (valuesOn cuts) (valuesOn rs)
 
 -- ---- elhavir_question: 0 when done, else the refusal's number
 module _ (model s states est : List ℕ) where
@@ -200,14 +200,14 @@ module _ (model s states est : List ℕ) where
 
   pub entry-asker : Judged (λ (o : AskOutcome). o .answer) (λ n. askOutcome n est) (askChecks model s states est) asked-made (askEntry model s states est)
   unfolding askEntry
-  entry-asker = judges _ _ asked.numbers refl (askChecks model s states est) (ask-numbers model s states est) _ refl refl
+  entry-asker = judges _ _ asked.numbers refl (askChecks model s states est) (asked.question-numbers model s states (valuesOn est)) _ refl refl
 
   module _ {r : ℕ} {l : List ℕ} (done : EntryAsks model s states est r l) where
     pub elhavir-question-judged : Judged (λ (o : AskOutcome). o .answer) (λ n. askOutcome n est) (askChecks model s states est) asked-made (askOutcome r l)
     elhavir-question-judged = subst (Judged _ _ _ _) (sym done) entry-asker
 
     pub elhavir-question-numbers : has questionNumbers r ≡ true
-    elhavir-question-numbers = ap (has questionNumbers) (elhavir-question-judged .told) ∙ ask-gives model s states est
+    elhavir-question-numbers = ap (has questionNumbers) (elhavir-question-judged .told) ∙ question-gives model s states (valuesOn est)
 
 -- ---- elhavir_replay: an answer of kind 0, below 2^56, has a refusal's number as its value, and 14 its row in the field of the steps; one of another kind
 -- refuses nothing
@@ -229,14 +229,12 @@ module _ (model s log rs : List ℕ) where
 
   -- the row of 14 is one of a log that is not too long
   pub row-bad : Q ≡ 14 → badRow (taskOn model) steps ≡ 0 → ⊥
-  unfolding replayEntryChecks fewPlaces
-  row-bad = replays.stopped-bad model s steps (ltb (length rs / 12) (length steps))
+  row-bad = replays.stopped-bad model s steps (valuesOn rs)
 
   pub row-few : Q ≡ 14 → badRow (taskOn model) steps ≤ limits .log
-  unfolding replayEntryChecks fewPlaces
   row-few e =
       let f = bad-first (taskOn model) steps (row-bad e) in
-      omega (arith, f .counted, f .there, replays.stopped-short model s steps (ltb (length rs / 12) (length steps)) e)
+      omega (arith, f .counted, f .there, replays.stopped-short model s steps (valuesOn rs) e)
 
   told-back : replayRefusal (replayNumber (replay.refused (taskOn model) steps Q)) ≡ Q
   unfolding replay.refused replayNumber
@@ -246,7 +244,7 @@ module _ (model s log rs : List ℕ) where
       split true h =
           let e : Q ≡ 14 = eqb-true Q 14 h in
           refusal-low (badRow (taskOn model) steps * 2 ^ 32 + 14) (omega (arith, row-few e)) ∙ omega (arith, e)
-      split false h = refusal-low Q (omega (arith, replay-entry-low model s log rs)) ∙ omega (arith, replay-entry-low model s log rs)
+      split false h = let b = replay-byte model s steps (valuesOn rs) in refusal-low Q (omega (arith, b)) ∙ omega (arith, b)
 
   abbrev rows-made : ReplayOutcome
   rows-made = replayOutcome (replayNumber (replayed.Rows (length steps))) (over (signedBytes (rowList (taskOn model) (cutsOf s) steps)) rs)
@@ -255,7 +253,7 @@ module _ (model s log rs : List ℕ) where
       (replayEntryChecks model s log rs) rows-made (replayEntry model s log rs)
   unfolding replayEntry replayNumber
   entry-replayer =
-      judges _ _ replays.numbers refl (replayEntryChecks model s log rs) (replay-entry-numbers model s log rs) _
+      judges _ _ replays.numbers refl (replayEntryChecks model s log rs) (replays.replay-numbers model s steps (valuesOn rs)) _
       (refusal-none (replayNumber (replayed.Rows (length steps))) (omega arith)) told-back
 
   module _ {r : ℕ} {l : List ℕ} (done : EntryReplays model s log rs r l) where
@@ -265,4 +263,4 @@ module _ (model s log rs : List ℕ) where
     elhavir-replay-judged = subst (Judged _ _ _ _) (sym done) entry-replayer
 
     pub elhavir-replay-numbers : has replayNumbers (replayRefusal r) ≡ true
-    elhavir-replay-numbers = ap (has replayNumbers) (elhavir-replay-judged .told) ∙ replay-entry-gives model s log rs
+    elhavir-replay-numbers = ap (has replayNumbers) (elhavir-replay-judged .told) ∙ replay-gives model s steps (valuesOn rs)

@@ -1,7 +1,7 @@
 -- 02, order 7: "Given a model's two sheets and the recorded list of up to 255 step numbers, taken from its start, give for each row the tenths paid, the ground
 -- won and the detour." For `replay`, and for `elhavir_replay`, whose theorems begin with `entry-`; for whoever knows only the contract. What the rows say is
 -- stated once for both, as `RowsRight` (replay_laws, proofs/Rows). One outcome is in `OneOutcome`, accepted or refused in `Refusals`.
-use Prim.Native.Nat.{ℕ, suc, _+_, _-_, _*_, _/_, _^_, _≤_, _<_}
+use Prim.Native.Nat.{ℕ, suc, _+_, _-_, _*_, _^_, _≤_, _<_}
 use native.Mathlib.Omega.{arith}
 use native.Mathlib.Decide.{ℕ-discrete}
 use mathlib.Core.Path.{_≡_, refl, sym, ap, _∙_, subst⁻¹}
@@ -29,10 +29,9 @@ use Rattle.replay.proofs.PlanLaws.{stepsOf, plan-goal}
 use Rattle.replay_laws.proofs.Refusals.{Passed, quiet, stopped-bad}
 use Rattle.replay_laws.proofs.Rows as said
 use Rattle.replay_laws.proofs.Rows.{HasRows, RowsRight, GoalReached}
-use Rattle.historian.specs.Entries.{fewPlaces}
 use Rattle.historian.specs.ReplayEntry.{replayNumber, replayEntryChecks, ReplayOutcome, replayOutcome, EntryReplays}
 use Rattle.demands.proofs.Numbers.{kind, steps, value, Parts, takes-apart, value-back}
-use Rattle.demands.proofs.RefusalNumbers.{replay-entry-low}
+use Rattle.demands.proofs.RefusalNumbers.{replay-byte}
 use Rattle.demands.proofs.Refusals.{replay-judged, row-bad, row-few, elhavir-replay-judged}
 use Rattle.demands.proofs.Untouched.{past, bytes-length}
 
@@ -57,11 +56,11 @@ module _ (model s log : List ℕ) (rows : List ℤ) {l : List ℤ} where
   replay-fourteen done e = ap (λ (o : Outcome). o .answer) (replay-judged model s log rows done .leaves 14 (λ z. omega arith) e)
 
   pub replay-row : {k : ℕ} → Replays model s log rows (Stopped k) l → StoppedAt (taskOn model) log k
-  unfolding number rowNamed replayChecks
+  unfolding number rowNamed
   replay-row {k} done =
       let e : k ≡ badRow (taskOn model) log = ap rowNamed (replay-fourteen done refl) in
       let f : refusal (replayChecks model s log rows) ≡ 14 = sym (replay-judged model s log rows done .told) in
-      subst⁻¹ (StoppedAt (taskOn model) log) e (stopped-at (taskOn model) log (stopped-bad model s log (ltb (length rows) (length log * 3)) f))
+      subst⁻¹ (StoppedAt (taskOn model) log) e (stopped-at (taskOn model) log (stopped-bad model s log rows f))
 
 module _ (model s log : List ℕ) (rows : List ℤ) {n : ℕ} {l : List ℤ} (done : Replays model s log rows (Rows n) l) where
   -- a row for each step
@@ -139,9 +138,8 @@ module _ (model s log rows : List ℕ) {r : ℕ} {l : List ℕ} (done : EntryRep
   unfolding refused replayNumber
   other-number z e = refused-number z ∙ ap (λ (b : Bool). replayNumber (cond b (Stopped (badRow t taken-steps)) (Refused Q))) (ne-eqb Q 14 e)
 
-  checked : Q ≡ 0 → Passed model s taken-steps (ltb (length rows / 12) (length taken-steps))
-  unfolding replayEntryChecks fewPlaces
-  checked z = quiet model s taken-steps (ltb (length rows / 12) (length taken-steps)) z
+  checked : Q ≡ 0 → Passed model s taken-steps (valuesOn rows)
+  checked z = quiet model s taken-steps (valuesOn rows) z
 
   -- done: kind 1, and the number of rows in the field of the steps
   parts-done : Q ≡ 0 → Parts r 1 0 (length taken-steps) 0
@@ -161,7 +159,7 @@ module _ (model s log rows : List ℕ) {r : ℕ} {l : List ℕ} (done : EntryRep
   parts-other : (Q ≡ 0 → ⊥) → (Q ≡ 14 → ⊥) → Parts r 0 0 0 Q
   parts-other z q =
       let e : r ≡ 0 * 2 ^ 56 + 0 * 2 ^ 44 + 0 * 2 ^ 32 + Q = other-number z q ∙ omega arith in
-      subst⁻¹ (λ (x : ℕ). Parts x 0 0 0 Q) e (takes-apart 0 0 0 Q (omega arith) (omega arith) (omega (arith, replay-entry-low model s log rows)))
+      subst⁻¹ (λ (x : ℕ). Parts x 0 0 0 Q) e (takes-apart 0 0 0 Q (omega arith) (omega arith) (omega (arith, replay-byte model s taken-steps (valuesOn rows))))
 
   -- which of them it is
   data Told : Type 0 where

@@ -35,18 +35,13 @@ use Rattle.refining.proofs.CutListLaws.{listed-three}
 use Rattle.running.proofs.RowLaws.{row-each}
 use Rattle.values.specs.Values.{bytesOf, valueOn}
 use Rattle.historian.specs.Entries.{EntryRuns}
+use Rattle.demands.specs.Places.{PlaceSays}
 use Rattle.demands.proofs.Numbers.{kind, value-back}
 use Rattle.demands.proofs.Entry.{costs-few}
 use Rattle.demands.proofs.Answers.{entry-plan-right}
 use Rattle.demands.proofs.Cuts as cut
 
 -- ---- places of three values, as bytes
-
--- what a C program takes from the twelve bytes of place k
-pub record PlaceSays (bytes : List ℕ) (k a b c : ℕ) : Type 0 where
-  pub first : valueOn bytes (k * 3) ≡ a
-  pub second : valueOn bytes (k * 3 + 1) ≡ b
-  pub third : valueOn bytes (k * 3 + 2) ≡ c
 
 module _ {A : Type 0} (f : A → List ℕ) (three : (x : A) → length (f x) ≡ 3) where
   -- value i of place k of a list of places

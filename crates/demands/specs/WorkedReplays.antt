@@ -20,7 +20,6 @@ use Rattle.cut_sheets.specs.CutSheet as cut
 use Rattle.sheet_laws.proofs.Examples.{rethread}
 use Rattle.cut_laws.proofs.Examples.{cutPart}
 use Rattle.replay.specs.Replay as replay
-use Rattle.historian.specs.Entries as entries
 use Rattle.historian.specs.ReplayEntry as entry
 use Rattle.historian.specs.ReplayEntry.{ReplayOutcome, replayOutcome, replayEntry}
 
@@ -65,8 +64,8 @@ pub worked : map answer calls
     ∷ replayOutcome (2 * 2 ^ 32 + 14) (places 24)
     ∷ replayOutcome (2 * 2 ^ 32 + 14) []
     ∷ []
-unfolding answer calls entry.replayEntry entry.replayEntryChecks entry.replayNumber entries.fewPlaces values.valuesOn values.signedBytes values.bytesOf
-    values.bytesAt values.valueBytes values.twos replay.logChecks replay.refused replay.rowList replay.rowValues replay.figure replay.dash
+unfolding answer calls entry.replayEntry entry.replayNumber values.valuesOn values.signedBytes values.bytesOf
+    values.bytesAt values.valueBytes values.twos replay.replayChecks replay.logChecks replay.refused replay.rowList replay.rowValues replay.figure replay.dash
     replay.detour replay.won replay.difference replay.dashed replay.onWay replay.far replay.hasWay replay.paid replay.badRow replay.badAt replay.before
     replay.stepAt cut.cutSheetChecks cut.cutsOf taskOn cut.tailOf cut.atFront part.cutEntries part.cutChecks part.cutFields part.cutHeader part.cutPart
     part.cutBits part.cutOn part.cutPartWith part.ofCutPart part.cutNamed part.cutsNamed sheet.sheetChecks sheet.entries sheet.fieldsPart sheet.headerPart

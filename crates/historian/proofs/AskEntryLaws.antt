@@ -25,9 +25,10 @@ use Rattle.asking.specs.Question as question
 use Rattle.asking.proofs.AnswerLaws.{few-states}
 use Rattle.counts.specs.Counts.{usable}
 use Rattle.counts.proofs.UsableLaws.{usable-is, same-test}
-use Rattle.values.specs.Values.{bytesAt}
+use Rattle.values.specs.Values.{bytesAt, valuesOn}
 use Rattle.values.proofs.ValueLaws.{list-over}
-use Rattle.historian.specs.Entries.{fewPlaces, askChecks, askOutcome, askEntry, EntryAsks}
+use Rattle.historian.specs.Entries.{askChecks, askOutcome, askEntry, EntryAsks}
+use Rattle.historian.proofs.WholeLaws.{whole-values}
 use Rattle.sheets.specs.Holding.{taskOn}
 
 module _ (model s states l : List ℕ) where
@@ -107,22 +108,25 @@ module _ (model s states l : List ℕ) where
 
   -- ---- 8 is judged on the places lent: a list that has as many of them as a question can have states
   module _ (bytes : List ℕ) (most : ℕ) (all : ltb most 64 ≡ false) (lent : length l ≡ usable most (length bytes / 4)) where
-    tail-same : refusal (check 11 (badStates t states) ∷ fewPlaces n 4 bytes ∷ []) ≡ refusal (check 11 (badStates t states) ∷ tooFew n l ∷ [])
-    unfolding fewPlaces
+    abbrev TailSame : Type 0
+    TailSame = refusal (check 11 (badStates t states) ∷ tooFew n (valuesOn bytes) ∷ []) ≡ refusal (check 11 (badStates t states) ∷ tooFew n l ∷ [])
+
+    tail-same : TailSame
     tail-same = ⊎-elim bad good (true-or-false (badStates t states))
       where
-        bad : badStates t states ≡ true → refusal (check 11 (badStates t states) ∷ check 8 (ltb (length bytes / 4) n) ∷ []) ≡ refusal (check 11 (badStates t states) ∷ tooFew n l ∷ [])
+        bad : badStates t states ≡ true → TailSame
         bad h = sym (applies 11 (badStates t states) _ h (λ z. omega arith)) ∙ applies 11 (badStates t states) _ h (λ z. omega arith)
 
-        good : badStates t states ≡ false → refusal (check 11 (badStates t states) ∷ check 8 (ltb (length bytes / 4) n) ∷ []) ≡ refusal (check 11 (badStates t states) ∷ tooFew n l ∷ [])
+        good : badStates t states ≡ false → TailSame
         good h =
             let u = usable-is most (length bytes / 4) in
             let k = few-states t states h in
             ap (λ (x : Bool). refusal (check 11 (badStates t states) ∷ check 8 x ∷ []))
-            (same-test (length bytes / 4) n (length l) n (λ p. omega (arith, u .there)) (λ p. let q = u .enough n (omega (arith, k, ltb-false most 64 all)) p in omega arith))
+            (same-test (length (valuesOn bytes)) n (length l) n (λ p. omega (arith, u .there, whole-values bytes))
+            (λ p. let q = u .enough n (omega (arith, k, ltb-false most 64 all)) (omega (arith, whole-values bytes)) in omega arith))
 
     checks-same : refusal (askChecks model s states bytes) ≡ N
-    unfolding askChecks questionChecks
+    unfolding questionChecks
     checks-same = refusal-append (cutSheetChecks model s) _ ∙ ap (λ (x : ℕ). refusal (cutSheetChecks model s) then x) tail-same ∙ sym (refusal-append (cutSheetChecks model s) _)
 
     told : {a : Asked} {l′ : List ℕ} (e : Asks model s states l a l′) (k : ℕ) → a ≡ Estimates k → (ys : List ℕ) {bytes′ : List ℕ} → bytes′ ≡ puts 0 (each k (bytesAt (l′ ++ ys))) bytes

@@ -1,3 +1,4 @@
 pub mod RunEntryLaws
+pub mod WholeLaws
 pub mod AskEntryLaws
 pub mod ReplayEntryLaws

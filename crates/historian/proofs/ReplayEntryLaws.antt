@@ -33,8 +33,8 @@ use Rattle.replay.proofs.RowLaws.{rows-length}
 use Rattle.replay_laws.proofs.Refusals.{quiet, stopped-short}
 use Rattle.counts.specs.Counts.{usable}
 use Rattle.counts.proofs.UsableLaws.{all-of-them, usable-is, part-long, missing-same}
-use Rattle.historian.specs.Entries.{fewPlaces}
 use Rattle.historian.specs.ReplayEntry.{replayNumber, replayEntryChecks, replayOutcome, replayEntry, EntryReplays}
+use Rattle.historian.proofs.WholeLaws.{whole-places}
 
 -- ---- what a log comes to
 bad-row-within : (t : Task) (log : List ℕ) → badRow t log ≤ length log
@@ -76,8 +76,7 @@ module _ (model s log : List ℕ) (list : List ℤ) where
   figures = rowList (taskOn model) (cutsOf s) log
 
   room-for : N ≡ 0 → length log * 3 ≤ length list
-  unfolding replayChecks
-  room-for z = ltb-false (length list) (length log * 3) (quiet model s log (ltb (length list) (length log * 3)) z .places)
+  room-for z = quiet model s log list z .places
 
   module _ {a : Replayed} {list′ : List ℤ} (e : Replays model s log list a list′) where
     made : N ≡ 0 → outcome a list′ ≡ outcome (Rows (length log)) (over figures list)
@@ -154,40 +153,36 @@ module _ (model s log : List ℕ) (n most : ℕ) (seen : ltb (limits .log) most 
     abbrev M : ℕ
     M = refusal (replayEntryChecks model s log rows)
 
-    abbrev few : Bool
-    few = ltb (length list) (length got * 3)
-
     abbrev TailSame : Type 0
-    TailSame = refusal (logChecks t all ++ (fewPlaces (length all) 12 rows ∷ [])) ≡ refusal (logChecks t got ++ (tooFew (length got * 3) list ∷ []))
+    TailSame = refusal (logChecks t all ++ (tooFew (length all * 3) (valuesOn rows) ∷ [])) ≡ refusal (logChecks t got ++ (tooFew (length got * 3) list ∷ []))
 
     tail-same : TailSame
-    unfolding fewPlaces
     tail-same = ⊎-elim whole long whole-or-long
       where
         whole : Whole → TailSame
         whole w =
-            ap (λ (b : Bool). refusal (logChecks t all ++ (check 8 b ∷ []))) (missing-same (limits .log) (length rows / 12) (length all) (length list) (w .few) lent)
+            ap (λ (b : Bool). refusal (logChecks t all ++ (check 8 b ∷ [])))
+            (missing-same (limits .log) (length rows / 12) (length all) (length (valuesOn rows)) (length list) (w .few) (whole-places rows) lent)
             ∙ ap (λ (l : List ℕ). refusal (logChecks t l ++ (tooFew (length l * 3) list ∷ []))) (sym (w .same))
 
         long : Long → TailSame
         long w = sym (too-long t all _ (w .all-long)) ∙ too-long t got _ (w .got-long)
 
     checks-same : M ≡ N model s got list
-    unfolding replayEntryChecks replayChecks
+    unfolding replayChecks
     checks-same =
         refusal-append (cutSheetChecks model s) _ ∙ ap (λ (x : ℕ). refusal (cutSheetChecks model s) then x) tail-same ∙ sym (refusal-append (cutSheetChecks model s) _)
 
     -- a replay that is done had the whole log, and a refusal tells the same of it
     done-whole : N model s got list ≡ 0 → got ≡ all
-    unfolding replayChecks
     done-whole z =
-        ⊎-elim (λ (w : Whole). w .same) (λ (w : Long). absurd (omega (arith, w .got-long, quiet model s got few z .short))) whole-or-long
+        ⊎-elim (λ (w : Whole). w .same) (λ (w : Long). absurd (omega (arith, w .got-long, quiet model s got list z .short))) whole-or-long
 
     refused-same : refused t got (N model s got list) ≡ refused t all (N model s got list)
-    unfolding refused replayChecks
+    unfolding refused
     refused-same =
         ⊎-elim (λ (w : Whole). ap (λ (l : List ℕ). refused t l (N model s got list)) (w .same))
-        (λ (w : Long). simp (ne-eqb (N model s got list) 14 (λ z. omega (arith, w .got-long, stopped-short model s got few z)))) whole-or-long
+        (λ (w : Long). simp (ne-eqb (N model s got list) 14 (λ z. omega (arith, w .got-long, stopped-short model s got list z)))) whole-or-long
 
     module _ {a : Replayed} {list′ : List ℤ} (e : Replays model s got list a list′) where
       -- the entry's outcome

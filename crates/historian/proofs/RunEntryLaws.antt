@@ -1,53 +1,37 @@
 -- A run on byte lists is the run on lists of so many values, its cuts and rows put as bytes.
 use Prim.Native.Nat.{ℕ, _-_, _*_, _/_, _≤_, _<_}
 use native.Mathlib.Omega.{arith}
-use mathlib.Core.Path.{_≡_, sym, ap, ap₂, _∙_}
+use mathlib.Core.Path.{_≡_, sym, ap, _∙_}
 use mathlib.Core.Logic.{⊎-elim}
-use mathlib.Core.Bool.{Bool, true, false}
-use mathlib.Core.List.{List, [], _∷_, _++_}
+use mathlib.Core.List.{List, _++_}
 use lib.Dec.{ltb}
 use lib.ListN.{length, take, drop, length-append}
 use lib.Seq.{length-take-le}
 use borrow.Author.Tests.{eq-eqb, ne-eqb}
 use Rattle.task.specs.Loops.{over}
-use Rattle.task.specs.Sizes.{limits}
-use Rattle.task.proofs.LoopLaws.{true-or-false}
-use Rattle.fields.specs.Judging.{check, outside, refusal, each, _then_}
+use Rattle.task.specs.Sizes.{limits, mostSteps}
+use Rattle.fields.specs.Judging.{refusal, each}
 use Rattle.fields.specs.Places.{puts}
-use Rattle.fields.proofs.JudgingLaws.{applies, refusal-append, inside-means}
-use Rattle.sheets.specs.ModelSheet.{sheetChecks}
 use Rattle.running.specs.declared.Answer.{Answer}
-use Rattle.running.specs.Running.{roomChecks, runChecks, Runs}
+use Rattle.running.specs.Running.{runChecks, Runs}
 use Rattle.counts.specs.Counts.{cutValueCount, rowCount, rowValueCount, Counted, usable}
 use Rattle.counts.proofs.CountLaws as count
 use Rattle.counts.proofs.UsableLaws.{usable-is, part-long, missing-same}
-use Rattle.values.specs.Values.{bytesAt, bytesOf}
+use Rattle.values.specs.Values.{bytesAt, bytesOf, valuesOn}
 use Rattle.values.proofs.ValueLaws.{list-over, nothing-put}
-use Rattle.historian.specs.Entries.{fewPlaces, answerNumber, entryChecks, madeBytes, runOutcome, runEntry, EntryRuns}
+use Rattle.historian.specs.Entries.{answerNumber, entryChecks, madeBytes, runOutcome, runEntry, EntryRuns}
+use Rattle.historian.proofs.WholeLaws.{whole-places}
 
 -- ---- 8 is judged on the places lent
-module _ (s : List ℕ) (room : ℕ) (cuts rows c r : List ℕ) (lc : length c ≡ usable 255 (length cuts / 12) * 3) (lr : length r ≡ usable 255 (length rows / 12) * 3) where
-  few-same : room ≤ 256 → (bytes list : List ℕ) → length list ≡ usable 255 (length bytes / 12) * 3 → ltb (length bytes / 12) (room - 1) ≡ ltb (length list) ((room - 1) * 3)
-  few-same h bytes list e = missing-same 255 (length bytes / 12) (room - 1) (length list) (omega arith) e
-
-  abbrev RoomSame : Type 0
-  RoomSame = refusal (check 7 (outside 1 (limits .blocks) room) ∷ fewPlaces (room - 1) 12 cuts ∷ fewPlaces (room - 1) 12 rows ∷ []) ≡ refusal (roomChecks room c r)
-
-  room-same : RoomSame
-  unfolding roomChecks fewPlaces
-  room-same = ⊎-elim bad good (true-or-false (outside 1 256 room))
-    where
-      bad : outside 1 256 room ≡ true → RoomSame
-      bad h = sym (applies 7 (outside 1 256 room) _ h (λ z. omega arith)) ∙ applies 7 (outside 1 256 room) _ h (λ z. omega arith)
-
-      good : outside 1 256 room ≡ false → RoomSame
-      good h =
-          let i = inside-means 1 256 room h in
-          ap₂ (λ (x y : Bool). refusal (check 7 (outside 1 256 room) ∷ check 8 x ∷ check 8 y ∷ [])) (few-same (i .1) cuts c lc) (few-same (i .1) rows r lr)
+module _ (s : List ℕ) (room : ℕ) (cuts rows c r : List ℕ) (lc : length c ≡ usable mostSteps (length cuts / 12) * 3)
+    (lr : length r ≡ usable mostSteps (length rows / 12) * 3) where
+  few-same : room ≤ limits .blocks → (bytes list : List ℕ) → length list ≡ usable mostSteps (length bytes / 12) * 3
+      → ltb (length (valuesOn bytes)) ((room - 1) * 3) ≡ ltb (length list) ((room - 1) * 3)
+  few-same h bytes list e =
+      missing-same mostSteps (length bytes / 12) (room - 1) (length (valuesOn bytes)) (length list) (omega arith) (whole-places bytes) e
 
   checks-same : refusal (entryChecks s room cuts rows) ≡ refusal (runChecks s room c r)
-  unfolding entryChecks runChecks
-  checks-same = refusal-append (sheetChecks s) _ ∙ ap (λ (x : ℕ). refusal (sheetChecks s) then x) room-same ∙ sym (refusal-append (sheetChecks s) (roomChecks room c r))
+  checks-same = count.lists-same s room (valuesOn cuts) (valuesOn rows) c r (λ h. (few-same h cuts c lc, few-same h rows r lr))
 
   module _ {a : Answer} {c′ r′ : List ℕ} (e : Runs s room c r a c′ r′) where
     abbrev cutList : List ℕ

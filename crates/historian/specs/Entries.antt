@@ -1,14 +1,11 @@
 -- 01, "The planner's boundary": the run and the question for the historian, which passes lists of bytes.
-use Prim.Native.Nat.{ℕ, _+_, _-_, _*_, _/_, _^_}
+use Prim.Native.Nat.{ℕ, _+_, _*_, _^_}
 use mathlib.Core.Path.{_≡_}
-use mathlib.Core.List.{List, [], _∷_, _++_}
-use lib.Dec.{ltb}
-use lib.ListN.{length}
+use mathlib.Core.List.{List}
 use Rattle.task.specs.Loops.{over}
 use Rattle.task.specs.Task.{Task}
-use Rattle.fields.specs.Judging.{Check, check, refusal, unlessRefused}
-use Rattle.values.specs.Values.{bytesOf}
-use Rattle.sheets.specs.ModelSheet.{sheetChecks}
+use Rattle.fields.specs.Judging.{Check, refusal, unlessRefused}
+use Rattle.values.specs.Values.{bytesOf, valuesOn}
 use Rattle.sheets.specs.Holding.{taskOn}
 use Rattle.run.specs.Run as run
 use Rattle.run.specs.Run.{blockCount, rowsOf}
@@ -16,13 +13,9 @@ use Rattle.blocks.specs.Flat.{cutPlace}
 use Rattle.run.specs.Listing.{listed, rowPlace}
 use Rattle.running.specs.declared.Answer.{Answer}
 use Rattle.running.specs.declared.Answer.the-variants.{Plan, NoPlan, Open, Refused}
-use Rattle.running.specs.Running.{roomCheck, told}
-use Rattle.cut_sheets.specs.CutSheet.{cutSheetChecks, cutsOf}
-use Rattle.asking.specs.Question.{statesIn, badStates, estimatesOf}
-
--- 8: fewer than n places of w bytes each; bytes short of a whole place are no place
-unfoldable pub fewPlaces : ℕ → ℕ → List ℕ → Check
-fewPlaces n w bytes = check 8 (ltb (length bytes / w) n)
+use Rattle.running.specs.Running.{runChecks, told}
+use Rattle.cut_sheets.specs.CutSheet.{cutsOf}
+use Rattle.asking.specs.Question.{questionChecks, estimatesOf}
 
 -- ---- a run
 
@@ -33,10 +26,9 @@ answerNumber (Plan cost steps blocks) = 1 * 2 ^ 56 + blocks * 2 ^ 44 + steps * 2
 answerNumber (NoPlan blocks) = 2 * 2 ^ 56 + blocks * 2 ^ 44
 answerNumber (Open estimate blocks) = 3 * 2 ^ 56 + blocks * 2 ^ 44 + estimate
 
--- the sheet, then 7, then 8: cuts and rows each need room less 1 places, of three values each
-unfoldable pub entryChecks : List ℕ → ℕ → List ℕ → List ℕ → List Check
-entryChecks s room cuts rows =
-    sheetChecks s ++ (roomCheck room ∷ fewPlaces (room - 1) 12 cuts ∷ fewPlaces (room - 1) 12 rows ∷ [])
+-- a run's checks, of the values in the lists of bytes: bytes short of a whole value are none
+abbrev pub entryChecks : List ℕ → ℕ → List ℕ → List ℕ → List Check
+entryChecks s room cuts rows = runChecks s room (valuesOn cuts) (valuesOn rows)
 
 pub record RunOutcome : Type 0 where
   pub answer : ℕ
@@ -62,10 +54,9 @@ EntryRuns s room cuts rows r cuts′ rows′ = runOutcome r cuts′ rows′ ≡ 
 
 -- ---- a question
 
--- both sheets, then 11, then 8: a place of one value for each state
-unfoldable pub askChecks : List ℕ → List ℕ → List ℕ → List ℕ → List Check
-askChecks model s states estimates =
-    cutSheetChecks model s ++ (check 11 (badStates (taskOn model) states) ∷ fewPlaces (statesIn (taskOn model) states) 4 estimates ∷ [])
+-- a question's checks, of the values in the list of bytes
+abbrev pub askChecks : List ℕ → List ℕ → List ℕ → List ℕ → List Check
+askChecks model s states estimates = questionChecks model s states (valuesOn estimates)
 
 pub record AskOutcome : Type 0 where
   pub answer : ℕ

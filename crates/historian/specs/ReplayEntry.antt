@@ -1,17 +1,16 @@
 -- 02, order 7, for the historian, which passes lists of bytes: the log has a value for each step, and a row is three signed values.
 use Prim.Native.Nat.{ℕ, _+_, _*_, _^_}
 use mathlib.Core.Path.{_≡_}
-use mathlib.Core.List.{List, [], _∷_, _++_}
+use mathlib.Core.List.{List}
 use lib.ListN.{length}
 use Rattle.task.specs.Loops.{over}
 use Rattle.fields.specs.Judging.{Check, refusal, unlessRefused}
 use Rattle.sheets.specs.Holding.{taskOn}
-use Rattle.cut_sheets.specs.CutSheet.{cutSheetChecks, cutsOf}
+use Rattle.cut_sheets.specs.CutSheet.{cutsOf}
 use Rattle.values.specs.Values.{valuesOn, signedBytes}
 use Rattle.replay.specs.declared.Replayed.{Replayed}
 use Rattle.replay.specs.declared.Replayed.the-variants.{Rows, Stopped, Refused}
-use Rattle.replay.specs.Replay.{rowList, logChecks, refused}
-use Rattle.historian.specs.Entries.{fewPlaces}
+use Rattle.replay.specs.Replay.{rowList, replayChecks, refused}
 
 -- done is kind 1 with the number of rows in the field of the steps; a refusal's number is the value, and 14 alone has its row in the field of the steps
 unfoldable pub replayNumber : Replayed → ℕ
@@ -19,10 +18,9 @@ replayNumber (Rows n) = 1 * 2 ^ 56 + n * 2 ^ 32
 replayNumber (Stopped row) = row * 2 ^ 32 + 14
 replayNumber (Refused n) = n
 
--- both sheets, then 15, then 14, then 8: a place of three values for each step
-unfoldable pub replayEntryChecks : List ℕ → List ℕ → List ℕ → List ℕ → List Check
-replayEntryChecks model s log rows =
-    cutSheetChecks model s ++ (logChecks (taskOn model) (valuesOn log) ++ (fewPlaces (length (valuesOn log)) 12 rows ∷ []))
+-- a replay's checks, of the values in the lists of bytes
+abbrev pub replayEntryChecks : List ℕ → List ℕ → List ℕ → List ℕ → List Check
+replayEntryChecks model s log rows = replayChecks model s (valuesOn log) (valuesOn rows)
 
 pub record ReplayOutcome : Type 0 where
   pub answer : ℕ

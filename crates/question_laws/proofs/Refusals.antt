@@ -2,23 +2,23 @@
 -- everything lent as found. The checks, in 01's order, are `questionChecks`.
 use Prim.Native.Nat.{ℕ}
 use mathlib.Core.Path.{refl}
-use mathlib.Core.List.{List, [], _∷_}
+use mathlib.Core.List.{List, [], _∷_, _++_}
 use Rattle.task.specs.Loops.{over}
 use Rattle.fields.proofs.ExactLaws.{has, Numbers, numbers-append, Judged, judges}
 use Rattle.sheets.specs.Holding.{taskOn}
 use Rattle.cut_sheets.specs.CutSheet.{cutSheetChecks, cutsOf}
-use Rattle.cut_laws.proofs.Refusals.{rebuildNumbers, sheets-numbers}
+use Rattle.cut_laws.proofs.Refusals.{sheetsNumbers, sheets-numbers}
 use Rattle.asking.specs.declared.Asked.the-variants.{Estimates, Refused}
 use Rattle.asking.specs.Question.{statesIn, estimatesOf, questionChecks, Outcome, outcome, number, asking}
 
 -- which numbers a question can get
 abbrev pub numbers : List ℕ
-numbers = 1 ∷ 2 ∷ 3 ∷ 4 ∷ 5 ∷ 6 ∷ 8 ∷ 9 ∷ 10 ∷ 11 ∷ []
+numbers = sheetsNumbers ++ (11 ∷ 8 ∷ [])
 
 module _ (model s states est : List ℕ) where
   pub question-numbers : Numbers (has numbers) (questionChecks model s states est)
   unfolding questionChecks
-  question-numbers = numbers-append (has numbers) rebuildNumbers refl (cutSheetChecks model s) _ (sheets-numbers model s) refl
+  question-numbers = numbers-append (has numbers) sheetsNumbers refl (cutSheetChecks model s) _ (sheets-numbers model s) refl
 
   pub asker : Judged (λ (o : Outcome). number (o .answer)) (λ n. outcome (Refused n) est) (questionChecks model s states est)
       (outcome (Estimates (statesIn (taskOn model) states)) (over (estimatesOf (taskOn model) (cutsOf s) states) est)) (asking model s states est)

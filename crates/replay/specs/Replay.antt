@@ -97,7 +97,7 @@ rowList t cs log = each (length log) (rowValues t cs log)
 unfoldable pub logChecks : Task → List ℕ → List Check
 logChecks t log = check 15 (ltb (limits .log) (length log)) ∷ check 14 (not (eqb (badRow t log) 0)) ∷ []
 
-unfoldable pub replayChecks : List ℕ → List ℕ → List ℕ → List ℤ → List Check
+unfoldable pub replayChecks : {A : Type 0} → List ℕ → List ℕ → List ℕ → List A → List Check
 replayChecks model s log rows = cutSheetChecks model s ++ (logChecks (taskOn model) log ++ (tooFew (length log * 3) rows ∷ []))
 
 -- an answer's refusal number, 0 for none; the row that 14 comes with; and how many rows were written

@@ -16,14 +16,15 @@ use Rattle.fields.specs.Judging.{Check, check, _then_, refusal}
 use Rattle.fields.proofs.ExactLaws.{has, Numbers, numbers-append, gives, Judged, judges}
 use Rattle.fields.proofs.JudgingLaws.{neither, passed, refusal-append}
 use Rattle.sheets.specs.Holding.{taskOn}
+use Rattle.sheets.specs.LentTables.{tooFew}
 use Rattle.cut_sheets.specs.CutSheet.{cutSheetChecks, cutsOf}
-use Rattle.cut_laws.proofs.Refusals.{rebuildNumbers, sheets-numbers}
+use Rattle.cut_laws.proofs.Refusals.{sheetsNumbers, sheets-numbers}
 use Rattle.replay.specs.declared.Replayed.the-variants.{Rows, Stopped, Refused}
 use Rattle.replay.specs.Replay.{badRow, rowList, logChecks, replayChecks, number, refused, Outcome, outcome, replaying}
 
 -- which numbers a replay can get
 abbrev pub numbers : List ℕ
-numbers = 1 ∷ 2 ∷ 3 ∷ 4 ∷ 5 ∷ 6 ∷ 8 ∷ 9 ∷ 10 ∷ 14 ∷ 15 ∷ []
+numbers = sheetsNumbers ++ (15 ∷ 14 ∷ 8 ∷ [])
 
 pub refused-number : (t : Task) (log : List ℕ) (n : ℕ) → number (refused t log n) ≡ n
 unfolding number refused
@@ -33,24 +34,27 @@ refused-number t log n = split (eqb n 14) refl
     split true e = sym (eqb-true n 14 e)
     split false e = refl
 
--- ---- the checks of a replay, whatever is too few of the places lent, which is the last of them
-module _ (model s log : List ℕ) (few : Bool) where
-  abbrev pub checks : List Check
-  checks = cutSheetChecks model s ++ (logChecks (taskOn model) log ++ (check 8 few ∷ []))
+-- ---- the checks of a replay, whatever the rows are lent as
+module _ {A : Type 0} (model s log : List ℕ) (rows : List A) where
+  abbrev checks : List Check
+  checks = replayChecks model s log rows
 
-  pub checks-numbers : Numbers (has numbers) checks
-  unfolding logChecks
-  checks-numbers = numbers-append (has numbers) rebuildNumbers refl (cutSheetChecks model s) _ (sheets-numbers model s) refl
+  abbrev few : Check
+  few = tooFew (length log * 3) rows
+
+  pub replay-numbers : Numbers (has numbers) checks
+  unfolding replayChecks logChecks
+  replay-numbers = numbers-append (has numbers) sheetsNumbers refl (cutSheetChecks model s) _ (sheets-numbers model s) refl
 
   -- what no refusal says
   pub record Passed : Type 0 where
     pub sheets : refusal (cutSheetChecks model s) ≡ 0
     pub short : length log ≤ limits .log
     pub fine : badRow (taskOn model) log ≡ 0
-    pub places : few ≡ false
+    pub places : length log * 3 ≤ length rows
 
   pub quiet : refusal checks ≡ 0 → Passed
-  unfolding logChecks
+  unfolding replayChecks logChecks
   quiet z =
       let p = neither (refusal (cutSheetChecks model s)) _ (sym (refusal-append (cutSheetChecks model s) _) ∙ z) in
       let q = passed 15 (ltb (limits .log) (length log)) _ (λ e. omega arith) (p .1) in
@@ -59,7 +63,7 @@ module _ (model s log : List ℕ) (few : Bool) where
         sheets = p .0;
         short = ltb-false (limits .log) (length log) (q .0);
         fine = eqb-true (badRow (taskOn model) log) 0 (not-false _ (r .0));
-        places = passed 8 few _ (λ e. omega arith) (r .1) .0;
+        places = ltb-false (length rows) (length log * 3) (passed 8 (few .applies) _ (λ e. omega arith) (r .1) .0);
       }
 
   -- ---- 14 is given for a row that is bad, in a log that is not too long: else no check that counts has that number
@@ -67,13 +71,14 @@ module _ (model s log : List ℕ) (few : Bool) where
   long = ltb (limits .log) (length log)
 
   abbrev others : List ℕ
-  others = 1 ∷ 2 ∷ 3 ∷ 4 ∷ 5 ∷ 6 ∷ 8 ∷ 9 ∷ 10 ∷ 15 ∷ []
+  others = sheetsNumbers ++ (15 ∷ 8 ∷ [])
 
   -- checks with other numbers in place of those of the log
-  other : (cs : List Check) → Numbers (has others) cs → refusal (logChecks (taskOn model) log ++ (check 8 few ∷ [])) ≡ refusal cs → refusal checks ≡ 14 → ⊥
+  other : (cs : List Check) → Numbers (has others) cs → refusal (logChecks (taskOn model) log ++ (few ∷ [])) ≡ refusal cs → refusal checks ≡ 14 → ⊥
+  unfolding replayChecks
   other cs n same e =
       let m : Numbers (has others) (cutSheetChecks model s ++ cs) =
-      numbers-append (has others) rebuildNumbers refl (cutSheetChecks model s) cs (sheets-numbers model s) n in
+      numbers-append (has others) sheetsNumbers refl (cutSheetChecks model s) cs (sheets-numbers model s) n in
       let g : not (eqb (refusal (cutSheetChecks model s ++ cs)) 14) ≡ true = gives (λ k. not (eqb k 14)) others refl (cutSheetChecks model s ++ cs) m in
       let q : refusal checks ≡ refusal (cutSheetChecks model s ++ cs) =
       refusal-append (cutSheetChecks model s) _ ∙ ap (λ (k : ℕ). refusal (cutSheetChecks model s) then k) same
@@ -82,7 +87,7 @@ module _ (model s log : List ℕ) (few : Bool) where
 
   pub stopped-bad : refusal checks ≡ 14 → badRow (taskOn model) log ≡ 0 → ⊥
   unfolding logChecks refusal
-  stopped-bad e z = other (check 15 long ∷ check 1 false ∷ check 8 few ∷ []) refl (rw (eq-eqb (badRow (taskOn model) log) 0 z)) e
+  stopped-bad e z = other (check 15 long ∷ check 1 false ∷ few ∷ []) refl (rw (eq-eqb (badRow (taskOn model) log) 0 z)) e
 
   pub stopped-short : refusal checks ≡ 14 → length log ≤ limits .log
   unfolding logChecks refusal _then_
@@ -94,13 +99,9 @@ module _ (model s log : List ℕ) (few : Bool) where
 
 -- ---- replay
 module _ (model s log : List ℕ) (rows : List ℤ) where
-  pub replay-numbers : Numbers (has numbers) (replayChecks model s log rows)
-  unfolding replayChecks
-  replay-numbers = checks-numbers model s log (ltb (length rows) (length log * 3))
-
   pub replayer : Judged (λ (o : Outcome). number (o .answer)) (λ n. outcome (refused (taskOn model) log n) rows) (replayChecks model s log rows)
       (outcome (Rows (length log)) (over (rowList (taskOn model) (cutsOf s) log) rows)) (replaying model s log rows)
   unfolding replaying number
   replayer =
       let n = refusal (replayChecks model s log rows) in
-      judges _ _ numbers refl (replayChecks model s log rows) replay-numbers _ refl (refused-number (taskOn model) log n)
+      judges _ _ numbers refl (replayChecks model s log rows) (replay-numbers model s log rows) _ refl (refused-number (taskOn model) log n)

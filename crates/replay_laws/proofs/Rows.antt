@@ -207,9 +207,8 @@ module _ (model s log : List ℕ) (rows : List ℤ) {n : ℕ} {next : List ℤ} 
   unfolding number
   told = sym (replayer model s log rows .told) ∙ ap (λ (o : Outcome). number (o .answer)) (sym done)
 
-  pub checked : Passed model s log (ltb (length rows) (length log * 3))
-  unfolding replayChecks
-  checked = quiet model s log (ltb (length rows) (length log * 3)) told
+  pub checked : Passed model s log rows
+  checked = quiet model s log rows told
 
   whole : outcome (Rows n) next ≡ outcome (Rows (length log)) (over (rowList t (cutsOf s) log) rows)
   unfolding number

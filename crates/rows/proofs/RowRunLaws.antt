@@ -4,7 +4,7 @@ use native.Mathlib.Nat.{not-suc-le-zero, le-of-suc-le-suc}
 use native.Mathlib.Omega.{arith}
 use mathlib.Core.Path.{_≡_, refl, sym, ap, _∙_}
 use mathlib.Core.Logic.{⊎-elim}
-use mathlib.Core.Bool.{Bool, true, false, _&&_}
+use mathlib.Core.Bool.{true, _&&_}
 use mathlib.Core.List.{List, [], _∷_, _++_, append-assoc}
 use lib.Dec.{ltb}
 use lib.ListN.{length, getD, take, drop}
@@ -12,13 +12,10 @@ use lib.Seq.{length-take-le}
 use borrow.Author.Tests.{eq-eqb, ne-eqb, ltb-true}
 use Rattle.task.specs.declared.Step.{Step}
 use Rattle.task.specs.Loops.{over}
-use Rattle.task.specs.Sizes.{limits}
+use Rattle.task.specs.Sizes.{limits, mostSteps}
 use Rattle.task.specs.Task.{Task, State, step, stepCount, canTake, taken, start, reaches, IsPlan}
-use Rattle.task.proofs.LoopLaws.{true-or-false, and-left, and-right}
-use Rattle.fields.specs.Judging.{check, outside, refusal, _then_}
-use Rattle.fields.proofs.JudgingLaws.{applies, refusal-append, inside-means}
-use Rattle.sheets.specs.ModelSheet.{sheetChecks}
-use Rattle.sheets.specs.LentTables.{tooFew}
+use Rattle.task.proofs.LoopLaws.{and-left, and-right}
+use Rattle.fields.specs.Judging.{refusal}
 use Rattle.sheets.specs.Holding.{taskOn}
 use Rattle.run.specs.declared.Row.{Row}
 use Rattle.run.specs.Run as run
@@ -29,7 +26,7 @@ use Rattle.run.specs.Listing.{listed, rowPlace}
 use Rattle.running.specs.declared.Answer.{Answer}
 use Rattle.running.specs.declared.Answer.the-variants.{Refused}
 use Rattle.running.specs.Running as running
-use Rattle.running.specs.Running.{roomChecks, runChecks, told}
+use Rattle.running.specs.Running.{runChecks, told}
 use Rattle.running.proofs.RowLaws.{row-each}
 use Rattle.counts.specs.Counts.{rowCount, usable}
 use Rattle.counts.proofs.CountLaws as count
@@ -61,26 +58,12 @@ module _ (t : Task) where
   rows-counted b («open» e) = refl
 
 -- ---- 8 is judged on the places lent
-module _ (s : List ℕ) (room : ℕ) (cuts : List ℕ) (lent : List Row) (list : List ℕ) (l : length list ≡ usable 255 (length lent) * 3) where
-  few-same : room ≤ 256 → ltb (length lent) (room - 1) ≡ ltb (length list) ((room - 1) * 3)
-  few-same h = missing-same 255 (length lent) (room - 1) (length list) (omega arith) l
-
-  abbrev RoomSame : Type 0
-  RoomSame = refusal (check 7 (outside 1 (limits .blocks) room) ∷ tooFew ((room - 1) * 3) cuts ∷ check 8 (ltb (length lent) (room - 1)) ∷ []) ≡ refusal (roomChecks room cuts list)
-
-  room-same : RoomSame
-  unfolding roomChecks
-  room-same = ⊎-elim bad good (true-or-false (outside 1 256 room))
-    where
-      bad : outside 1 256 room ≡ true → RoomSame
-      bad h = sym (applies 7 (outside 1 256 room) _ h (λ z. omega arith)) ∙ applies 7 (outside 1 256 room) _ h (λ z. omega arith)
-
-      good : outside 1 256 room ≡ false → RoomSame
-      good h = ap (λ (x : Bool). refusal (check 7 (outside 1 256 room) ∷ tooFew ((room - 1) * 3) cuts ∷ check 8 x ∷ [])) (few-same (inside-means 1 256 room h .1))
+module _ (s : List ℕ) (room : ℕ) (cuts : List ℕ) (lent : List Row) (list : List ℕ) (l : length list ≡ usable mostSteps (length lent) * 3) where
+  few-same : room ≤ limits .blocks → ltb (length (listed rowPlace lent)) ((room - 1) * 3) ≡ ltb (length list) ((room - 1) * 3)
+  few-same h = missing-same mostSteps (length lent) (room - 1) (length (listed rowPlace lent)) (length list) (omega arith) (omega (arith, listed-long lent)) l
 
   pub checks-same : refusal (rowChecks s room cuts lent) ≡ refusal (runChecks s room cuts list)
-  unfolding rowChecks runChecks
-  checks-same = refusal-append (sheetChecks s) _ ∙ ap (λ (x : ℕ). refusal (sheetChecks s) then x) room-same ∙ sym (refusal-append (sheetChecks s) (roomChecks room cuts list))
+  checks-same = count.lists-same s room cuts (listed rowPlace lent) cuts list (λ h. (refl, few-same h))
 
   module _ {a : Answer} {c v : List ℕ} (e : running.Runs s room cuts list a c v) (vs : List ℕ) where
     abbrev t : Task

@@ -1,25 +1,23 @@
 -- 01, "A run" and "Places and their forms": the rows of the change sheet in a lent list of rows.
-use Prim.Native.Nat.{ℕ, _+_, _-_, _*_, _/_}
+use Prim.Native.Nat.{ℕ, _+_, _*_, _/_}
 use mathlib.Core.Path.{_≡_}
 use mathlib.Core.Bool.{Bool, cond}
-use mathlib.Core.List.{List, [], _∷_, _++_}
+use mathlib.Core.List.{List}
 use lib.Dec.{ltb}
 use lib.ListN.{length, getD}
 use Rattle.task.specs.Loops.{all, tab, over}
 use Rattle.task.specs.Sizes.{limits}
 use Rattle.task.specs.Task.{step}
 use Rattle.fields.specs.Judging.{Check, refusal, unlessRefused}
-use Rattle.sheets.specs.ModelSheet.{sheetChecks}
 use Rattle.sheets.specs.Holding.{taskOn}
-use Rattle.sheets.specs.LentTables.{tooFew}
 use Rattle.run.specs.declared.Row.{Row}
 use Rattle.run.specs.Run as run
 use Rattle.run.specs.Run.{blockCount, rowsOf}
 use Rattle.blocks.specs.Flat.{cutPlace}
-use Rattle.run.specs.Listing.{listed}
+use Rattle.run.specs.Listing.{listed, rowPlace}
 use Rattle.running.specs.declared.Answer.{Answer}
 use Rattle.running.specs.declared.Answer.the-variants.{Refused}
-use Rattle.running.specs.Running.{roomCheck, told}
+use Rattle.running.specs.Running.{runChecks, told}
 
 -- ---- rows put from a list of values, three for each: step, tenths, tenths left
 
@@ -51,10 +49,9 @@ PutsRows rows values n r rows′ = filled r rows′ ≡ filling rows values n
 
 -- ---- a run whose rows are lent so
 
--- the sheet, then 7, then 8: cuts and rows each need room less 1 places
-unfoldable pub rowChecks : List ℕ → ℕ → List ℕ → List Row → List Check
-rowChecks s room cuts rows =
-    sheetChecks s ++ (roomCheck room ∷ tooFew ((room - 1) * 3) cuts ∷ tooFew (room - 1) rows ∷ [])
+-- a run's checks, of the rows as values
+abbrev pub rowChecks : List ℕ → ℕ → List ℕ → List Row → List Check
+rowChecks s room cuts rows = runChecks s room cuts (listed rowPlace rows)
 
 pub record Outcome : Type 0 where
   pub answer : Answer

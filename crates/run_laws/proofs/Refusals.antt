@@ -2,7 +2,7 @@
 -- everything lent as found. The checks, in 01's order, are `runChecks`.
 use Prim.Native.Nat.{ℕ}
 use mathlib.Core.Path.{_≡_, refl}
-use mathlib.Core.List.{List, [], _∷_}
+use mathlib.Core.List.{List, [], _∷_, _++_}
 use Rattle.task.specs.Task.{Task}
 use Rattle.fields.proofs.ExactLaws.{has, Numbers, numbers-append, Judged, judges}
 use Rattle.sheets.specs.ModelSheet.{sheetChecks}
@@ -22,7 +22,7 @@ told-number t b («open» e) = refl
 
 -- which numbers a run can get
 abbrev pub numbers : List ℕ
-numbers = 1 ∷ 2 ∷ 3 ∷ 4 ∷ 5 ∷ 6 ∷ 7 ∷ 8 ∷ []
+numbers = sheet.numbers ++ (7 ∷ 8 ∷ [])
 
 module _ (s : List ℕ) (room : ℕ) (cuts rows : List ℕ) where
   pub run-numbers : Numbers (has numbers) (runChecks s room cuts rows)

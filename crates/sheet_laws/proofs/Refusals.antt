@@ -22,7 +22,7 @@ abbrev pub numbers : List ℕ
 numbers = 1 ∷ 2 ∷ 3 ∷ 4 ∷ 5 ∷ 6 ∷ []
 
 abbrev pub lentNumbers : List ℕ
-lentNumbers = 1 ∷ 2 ∷ 3 ∷ 4 ∷ 5 ∷ 6 ∷ 8 ∷ []
+lentNumbers = numbers ++ (8 ∷ [])
 
 pub model-numbers : (p : Source) → Numbers (has numbers) (checksOf (entries p))
 unfolding entries fieldsPart headerPart columnPart stepPart marksPart fillPart checksOf
