@@ -24,7 +24,7 @@ use Rattle.running.specs.declared.Answer.the-variants.{Plan, NoPlan, Open, Refu
 use Rattle.running.specs.Running as running
 use Rattle.running.specs.Running.{told, number}
 use Rattle.run_laws.proofs.Answers as said
-use Rattle.counts.specs.Counts.{usable}
+use Rattle.values.specs.Usable.{usable}
 use Rattle.rows.specs.Rows as lent
 use Rattle.rows.specs.Rows.{outcome, RowRuns, PutsRows}
 use Rattle.rows.proofs.RowRunLaws.{checks-same}

@@ -23,8 +23,8 @@ use Rattle.asking.specs.declared.Asked.the-variants.{Estimates, Refused}
 use Rattle.asking.specs.Question.{statesIn, badStates, estimateAt, estimatesOf, questionChecks, outcome, asking, Asks}
 use Rattle.asking.specs.Question as question
 use Rattle.asking.proofs.AnswerLaws.{few-states}
-use Rattle.counts.specs.Counts.{usable}
-use Rattle.counts.proofs.UsableLaws.{usable-is, same-test}
+use Rattle.values.specs.Usable.{usable}
+use Rattle.values.proofs.UsableLaws.{usable-is, same-test}
 use Rattle.values.specs.Values.{bytesAt, valuesOn}
 use Rattle.values.proofs.ValueLaws.{list-over}
 use Rattle.historian.specs.Entries.{askChecks, askOutcome, askEntry, EntryAsks}

@@ -31,8 +31,8 @@ use Rattle.replay.specs.Replay.{badRow, rowList, logChecks, replayChecks, rowCo
 use Rattle.replay.proofs.LogLaws.{bad-first}
 use Rattle.replay.proofs.RowLaws.{rows-length}
 use Rattle.replay_laws.proofs.Refusals.{quiet, stopped-short}
-use Rattle.counts.specs.Counts.{usable}
-use Rattle.counts.proofs.UsableLaws.{all-of-them, usable-is, part-long, missing-same}
+use Rattle.values.specs.Usable.{usable}
+use Rattle.values.proofs.UsableLaws.{all-of-them, usable-is, part-long, missing-same}
 use Rattle.historian.specs.ReplayEntry.{replayNumber, replayEntryChecks, replayOutcome, replayEntry, EntryReplays}
 use Rattle.historian.proofs.WholeLaws.{whole-places}
 

@@ -14,9 +14,10 @@ use Rattle.fields.specs.Judging.{refusal, each}
 use Rattle.fields.specs.Places.{puts}
 use Rattle.running.specs.declared.Answer.{Answer}
 use Rattle.running.specs.Running.{runChecks, Runs}
-use Rattle.counts.specs.Counts.{cutValueCount, rowCount, rowValueCount, Counted, usable}
-use Rattle.counts.proofs.CountLaws as count
-use Rattle.counts.proofs.UsableLaws.{usable-is, part-long, missing-same}
+use Rattle.running.specs.Counts.{cutValueCount, rowCount, rowValueCount, Counted}
+use Rattle.values.specs.Usable.{usable}
+use Rattle.running.proofs.CountLaws as count
+use Rattle.values.proofs.UsableLaws.{usable-is, part-long, missing-same}
 use Rattle.values.specs.Values.{bytesAt, bytesOf, valuesOn}
 use Rattle.values.proofs.ValueLaws.{list-over, nothing-put}
 use Rattle.historian.specs.Entries.{answerNumber, entryChecks, madeBytes, runOutcome, runEntry, EntryRuns}

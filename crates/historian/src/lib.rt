@@ -4,12 +4,9 @@ ghost use Prim.Native.Nat.{_+_, _-_, _*_, _≤_};
 ghost use lib.ListN.{length};
 ghost use Rattle.task.specs.Sizes.{limits};
 ghost use Rattle.replay.specs.Replay.{rowCount, rowNamed};
-ghost use Rattle.counts.specs.Counts.{Counted};
+ghost use Rattle.running.specs.Counts.{Counted};
 ghost use Rattle.historian.specs.Entries.{answerNumber, EntryRuns, EntryAsks};
 ghost use Rattle.historian.specs.ReplayEntry.{replayNumber, EntryReplays};
-use counts::cut_values;
-use counts::row_values;
-use counts::usable_places;
 use planner::Answer;
 use planner::Asked;
 use planner::Replayed;
@@ -20,6 +17,7 @@ use task::Model;
 use values::get_values;
 use values::put_signed;
 use values::put_values;
+use values::usable_places;
 
 // What a kind, a block and a step weigh in an answer number: 2^56, 2^44 and 2^32.
 const KIND: u64 = 72057594037927936;
@@ -60,8 +58,8 @@ fn run_in(
     let m = usable_places(Model::BLOCKS - 1, cuts.len() / 12) * 3;
     let n = usable_places(Model::BLOCKS - 1, rows.len() / 12) * 3;
     let answer = run(sheet, room, &mut cut_list[..m], &mut row_list[..n]);
-    put_values(cut_list, cut_values(answer), cuts);
-    put_values(row_list, row_values(answer), rows);
+    put_values(cut_list, answer.cut_values(), cuts);
+    put_values(row_list, answer.row_values(), rows);
     answer_number(answer)
 }
 

@@ -21,8 +21,8 @@ use Rattle.io.specs.Counts.{Counts}
 use Rattle.running.specs.declared.Answer.{Answer}
 use Rattle.running.specs.declared.Answer.the-variants.{Plan, NoPlan, Open, Refused}
 use Rattle.running.specs.Running.{roomChecks, runChecks, Runs}
-use Rattle.counts.specs.Counts.{rowCount, rowValueCount, Counted}
-use Rattle.counts.proofs.CountLaws as count
+use Rattle.running.specs.Counts.{rowCount, rowValueCount, Counted}
+use Rattle.running.proofs.CountLaws as count
 use Rattle.lines.specs.Lines.{decimal, labelled, planText, noPlanText, openText, refusedText, stepsText, blocksText, space, lineEnd, firstLine, rowLine, rowLines, madeLines, ranLines, printed, Put}
 use Rattle.lines.proofs.LineLaws.{join, same-long, decimal-short}
 

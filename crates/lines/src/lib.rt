@@ -2,11 +2,10 @@
 ghost use mathlib.Core.Path.{_≡_};
 ghost use Prim.Native.Nat.{_+_, _*_, _≤_, _<_};
 ghost use lib.ListN.{length};
-ghost use Rattle.counts.specs.Counts.{Counted};
+ghost use Rattle.running.specs.Counts.{Counted};
 ghost use Rattle.io.specs.Counts.{Counts};
 ghost use Rattle.fields.specs.Judging.{each};
 ghost use Rattle.lines.specs.Lines.{decimal, labelled, firstLine, rowLine, Put, ranLines, Prints};
-use counts::row_values;
 use fields::field::field;
 use planner::Answer;
 use planner::run;
@@ -116,7 +115,7 @@ fn put_run(sheet: &[u8], room: u32, cuts: &mut [u32], rows: &mut [u32], out: &mu
 {
     let answer = run(sheet, room, cuts, rows);
     let next = put_first_line(answer, out);
-    let count = row_values(answer) / 3;
+    let count = answer.row_values() / 3;
     put_rows(rows, count, out, next)
 }
 

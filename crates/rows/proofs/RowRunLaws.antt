@@ -28,9 +28,10 @@ use Rattle.running.specs.declared.Answer.the-variants.{Refused}
 use Rattle.running.specs.Running as running
 use Rattle.running.specs.Running.{runChecks, told}
 use Rattle.running.proofs.RowLaws.{row-each}
-use Rattle.counts.specs.Counts.{rowCount, usable}
-use Rattle.counts.proofs.CountLaws as count
-use Rattle.counts.proofs.UsableLaws.{usable-is, at-most, missing-same}
+use Rattle.running.specs.Counts.{rowCount}
+use Rattle.values.specs.Usable.{usable}
+use Rattle.running.proofs.CountLaws as count
+use Rattle.values.proofs.UsableLaws.{usable-is, at-most, missing-same}
 use Rattle.rows.specs.Rows.{filling, rowChecks, rowRun, RowRuns}
 use Rattle.rows.proofs.FillLaws.{listed-long, listed-put, nothing-put}
 

@@ -5,13 +5,13 @@ ghost use mathlib.Core.List.{List};
 ghost use lib.ListN.{length, getD};
 ghost use Rattle.task.specs.Sizes.{limits};
 ghost use Rattle.run.specs.declared.Row.{Row};
-ghost use Rattle.counts.specs.Counts.{rowCount};
+ghost use Rattle.running.specs.Counts.{rowCount};
 ghost use Rattle.rows.specs.Rows.{rowIn, stepsNamed, fitting, filling, PutsRows, RowRuns};
-use counts::usable_places;
 use planner::Answer;
 pub use run::Row;
 use task::Model;
 use task::Step;
+use values::usable_places;
 
 // Whether the first n rows' values each name a step.
 fn steps_named(values: &[u32], n: usize) -> bool

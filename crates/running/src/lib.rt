@@ -11,6 +11,7 @@ ghost use Rattle.run.specs.Listing.{listed, rowPlace};
 ghost use Rattle.walk.specs.Walking.{pathSteps};
 ghost use Rattle.refining.specs.Refining.{answerOf, blocksTold, KnownEnd, StepsFit};
 ghost use Rattle.running.specs.Running.{Costed, PathCosts, roomChecks, told, Runs};
+ghost use Rattle.running.specs.Counts.{cutValueCount, rowValueCount, Counted};
 use refining::Ended;
 use refining::refine;
 use task::Costs;
@@ -116,4 +117,47 @@ pub fn run(sheet: &[u8], room: u32, cuts: &mut [u32], rows: &mut [u32]) -> Answe
     let mut path = [0u8; Model::BLOCKS];
     let ended = refine(model, spare, cuts, &mut path);
     tell(ended, &path, &cost, rows)
+}
+
+// How many values an answer's cuts and rows take in the lists.
+impl Answer {
+    // There is one cut less than blocks.
+    pub fn cut_values(self) -> usize
+        requires { ⌜ Counted self ⌝ }
+        ensures { λ r. ⌜ r ≡ cutValueCount self ⌝ }
+    {
+        match self {
+            Answer::Plan {
+                cost: _,
+                steps: _,
+                blocks,
+            } => (blocks - 1) * 3,
+            Answer::NoPlan { blocks } => (blocks - 1) * 3,
+            Answer::Open {
+                estimate: _,
+                blocks,
+            } => (blocks - 1) * 3,
+            Answer::Refused(_) => 0,
+        }
+    }
+
+    // A plan has a row for each step.
+    pub fn row_values(self) -> usize
+        requires { ⌜ Counted self ⌝ }
+        ensures { λ r. ⌜ r ≡ rowValueCount self ⌝ }
+    {
+        match self {
+            Answer::Plan {
+                cost: _,
+                steps,
+                blocks: _,
+            } => steps * 3,
+            Answer::NoPlan { blocks: _ } => 0,
+            Answer::Open {
+                estimate: _,
+                blocks: _,
+            } => 0,
+            Answer::Refused(_) => 0,
+        }
+    }
 }

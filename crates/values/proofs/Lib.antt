@@ -1,2 +1,3 @@
 pub mod ValueLaws
 pub mod SignedLaws
+pub mod UsableLaws

@@ -6,6 +6,7 @@ ghost use lib.ListN.{length};
 ghost use Rattle.task.specs.Loops.{tab, over};
 ghost use Rattle.fields.specs.Judging.{each};
 ghost use Rattle.fields.specs.Places.{puts};
+ghost use Rattle.values.specs.Usable.{usable};
 ghost use Rattle.values.specs.Values.{tooMany, valueBytes, bytesAt, valueOn, twos};
 
 // How many numbers one, two, three and four bytes have.
@@ -86,4 +87,14 @@ pub fn get_values(bytes: &[u8], n: usize, values: &mut [u32])
         values[k] = get_value(bytes, k);
         k += 1;
     }
+}
+
+// How many of the places lent can matter where no more than most can be used.
+pub fn usable_places(most: usize, places: usize) -> usize
+    ensures { λ r. ⌜ r ≡ usable most places ⌝ }
+{
+    if most < places {
+        return most;
+    }
+    places
 }

@@ -1,5 +1,5 @@
 use mathlib.Core.Path.{refl}
-use Rattle.counts.specs.Counts.{Counted}
+use Rattle.running.specs.Counts.{Counted}
 use Rattle.historian.specs.Entries.{answerNumber}
 use borrow.Author.Needs.{needs}
 use Rattle.historian.proofs.answer_number.Statement.{statement}

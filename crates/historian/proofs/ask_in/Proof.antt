@@ -1,7 +1,7 @@
 use native.Mathlib.Omega.{arith}
 use mathlib.Core.Path.{refl, sym}
 use lib.Seq.{length-take-le}
-use Rattle.counts.proofs.UsableLaws.{at-most, all-there}
+use Rattle.values.proofs.UsableLaws.{at-most, all-there}
 use Rattle.historian.proofs.AskEntryLaws.{asked-go, asked-in, refused-in}
 use borrow.Author.Needs.{needs}
 use Rattle.historian.proofs.ask_in.Statement.{statement}
@@ -10,7 +10,7 @@ use Rattle.historian.proofs.ask_in.Reads as reads
 use Rattle.historian.proofs.ask_in.Lts as lts
 use Rattle.asking.proofs.question.Reads as question-reads
 use Rattle.values.proofs.put_values.Reads as put-values-reads
-use Rattle.counts.proofs.usable_places.Reads as usable-places-reads
+use Rattle.values.proofs.usable_places.Reads as usable-places-reads
 
 usable-places-requires : tie.Need-usable-places-requires
 usable-places-requires c κs = search needs

@@ -2,14 +2,14 @@ use Prim.Native.Nat.{_*_}
 use native.Mathlib.Omega.{arith}
 use mathlib.Core.Path.{refl, sym}
 use lib.Seq.{length-take-le}
-use Rattle.counts.proofs.UsableLaws.{at-most, all-there}
+use Rattle.values.proofs.UsableLaws.{at-most, all-there}
 use Rattle.historian.proofs.ReplayEntryLaws.{got-fits, rows-few, row-few, rows-go, replayed-in}
 use borrow.Author.Needs.{needs}
 use Rattle.historian.proofs.replay_in.Statement.{statement}
 use Rattle.historian.proofs.replay_in.Tie as tie
 use Rattle.historian.proofs.replay_in.Reads as reads
 use Rattle.historian.proofs.replay_in.Lts as lts
-use Rattle.counts.proofs.usable_places.Reads as usable-places-reads
+use Rattle.values.proofs.usable_places.Reads as usable-places-reads
 use Rattle.replaying.proofs.replay.Reads as replay-reads
 use Rattle.historian.proofs.replay_number.Reads as replay-number-reads
 use Rattle.historian.proofs.replayed_values.Reads as replayed-values-reads

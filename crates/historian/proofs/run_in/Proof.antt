@@ -2,18 +2,18 @@ use Prim.Native.Nat.{_*_}
 use native.Mathlib.Omega.{arith}
 use mathlib.Core.Path.{sym}
 use lib.Seq.{length-take-le}
-use Rattle.counts.proofs.UsableLaws.{at-most, all-there}
+use Rattle.values.proofs.UsableLaws.{at-most, all-there}
 use Rattle.historian.proofs.RunEntryLaws.{counted, cuts-go, rows-go, told-in}
 use borrow.Author.Needs.{needs}
 use Rattle.historian.proofs.run_in.Statement.{statement}
 use Rattle.historian.proofs.run_in.Tie as tie
 use Rattle.historian.proofs.run_in.Reads as reads
 use Rattle.historian.proofs.run_in.Lts as lts
-use Rattle.counts.proofs.cut_values.Reads as cut-values-reads
-use Rattle.counts.proofs.row_values.Reads as row-values-reads
+use Rattle.running.proofs.Answer.cut_values.Reads as cut-values-reads
+use Rattle.running.proofs.Answer.row_values.Reads as row-values-reads
 use Rattle.historian.proofs.answer_number.Reads as answer-number-reads
 use Rattle.values.proofs.put_values.Reads as put-values-reads
-use Rattle.counts.proofs.usable_places.Reads as usable-places-reads
+use Rattle.values.proofs.usable_places.Reads as usable-places-reads
 use Rattle.running.proofs.run.Reads as run-reads
 
 sub-usable-places : tie.Need-sub-usable-places

@@ -1,5 +1,5 @@
 use native.Mathlib.Omega.{arith}
-use Rattle.counts.specs.Counts.{Counted}
+use Rattle.running.specs.Counts.{Counted}
 use Rattle.lines.proofs.PrintedLaws.{printed-short, printed-run}
 use borrow.Author.Needs.{needs}
 use Rattle.lines.proofs.put_printed.Statement.{statement}

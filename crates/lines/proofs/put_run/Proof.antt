@@ -6,7 +6,7 @@ use Rattle.lines.proofs.put_run.Statement.{statement}
 use Rattle.lines.proofs.put_run.Tie as tie
 use Rattle.lines.proofs.put_run.Reads as reads
 use Rattle.lines.proofs.put_run.Lts as lts
-use Rattle.counts.proofs.row_values.Reads as row-values-reads
+use Rattle.running.proofs.Answer.row_values.Reads as row-values-reads
 use Rattle.lines.proofs.put_first_line.Reads as put-first-line-reads
 use Rattle.lines.proofs.put_rows.Reads as put-rows-reads
 use Rattle.running.proofs.run.Reads as run-reads

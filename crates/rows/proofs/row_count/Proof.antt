@@ -1,5 +1,5 @@
 use mathlib.Core.Path.{refl}
-use Rattle.counts.specs.Counts.{rowCount}
+use Rattle.running.specs.Counts.{rowCount}
 use borrow.Author.Needs.{needs}
 use Rattle.rows.proofs.row_count.Statement.{statement}
 use Rattle.rows.proofs.row_count.Tie as tie

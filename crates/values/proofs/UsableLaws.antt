@@ -8,7 +8,7 @@ use lib.Dec.{ltb}
 use lib.ListN.{length, take}
 use lib.Seq.{length-take-le}
 use borrow.Author.Tests.{lt-ltb, le-ltb}
-use Rattle.counts.specs.Counts.{usable}
+use Rattle.values.specs.Usable.{usable}
 
 module _ (n places : ℕ) where
   pub many : n < places → n ≡ usable n places

@@ -1,10 +1,8 @@
 -- 01, "A run": how many values an answer's cuts and rows take in the lists, three for each place.
 use Prim.Native.Nat.{ℕ, _-_, _*_, _≤_}
-use mathlib.Core.Bool.{cond}
-use lib.Dec.{ltb}
 use Rattle.task.specs.Sizes.{limits}
 use Rattle.running.specs.declared.Answer.{Answer}
 use Rattle.running.specs.declared.Answer.the-variants.{Plan, NoPlan, Open, Refused}
 
 -- there is one cut less than blocks
 unfoldable pub cutValueCount : Answer → ℕ
@@ -29,7 +27,3 @@ Counted (Refused n) = Unit {0}
 Counted (Plan cost steps blocks) = (1 ≤ blocks) × (blocks ≤ limits .blocks) × (steps ≤ limits .blocks)
 Counted (NoPlan blocks) = (1 ≤ blocks) × (blocks ≤ limits .blocks)
 Counted (Open estimate blocks) = (1 ≤ blocks) × (blocks ≤ limits .blocks)
-
--- how many of the places lent can matter where no more than n can be used
-unfoldable pub usable : ℕ → ℕ → ℕ
-usable n places = cond (ltb n places) n places

@@ -26,13 +26,13 @@ use Rattle.run.proofs.LengthLaws.{plan-short}
 use Rattle.blocks.specs.Flat.{cutPlace}
 use Rattle.run.specs.Listing.{listed, rowPlace}
 use Rattle.refining.proofs.CutListLaws.{listed-length}
 use Rattle.running.specs.declared.Answer.{Answer}
 use Rattle.running.specs.declared.Answer.the-variants.{Refused}
 use Rattle.running.specs.Running as running
 use Rattle.running.specs.Running.{roomChecks, runChecks, told, outcome, made}
 use Rattle.running.proofs.RowLaws.{three}
 use Rattle.running.proofs.RunningLaws.{Fits, room-fits}
-use Rattle.counts.specs.Counts.{cutValueCount, rowCount, rowValueCount, Counted}
+use Rattle.running.specs.Counts.{cutValueCount, rowCount, rowValueCount, Counted}
 
 -- ---- the numbers of an answer
 module _ (t : Task) (blocks : ℕ) where

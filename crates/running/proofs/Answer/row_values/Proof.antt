@@ -1,17 +1,17 @@
 use mathlib.Core.Path.{refl}
-use Rattle.counts.specs.Counts.{rowCount, rowValueCount, Counted}
+use Rattle.running.specs.Counts.{rowCount, rowValueCount, Counted}
 use borrow.Author.Needs.{needs}
-use Rattle.counts.proofs.row_values.Statement.{statement}
-use Rattle.counts.proofs.row_values.Tie as tie
-use Rattle.counts.proofs.row_values.Reads as reads
-use Rattle.counts.proofs.row_values.Lts as lts
+use Rattle.running.proofs.Answer.row_values.Statement.{statement}
+use Rattle.running.proofs.Answer.row_values.Tie as tie
+use Rattle.running.proofs.Answer.row_values.Reads as reads
+use Rattle.running.proofs.Answer.row_values.Lts as lts
 
-enum-known-answer : tie.Need-enum-known-answer
-enum-known-answer c = search needs
+enum-known-self : tie.Need-enum-known-self
+enum-known-self c = search needs
 
 mul-result : tie.Need-mul-result
 unfolding Counted
-mul-result c = let e = c .before .answer .given .1 in let k = rw e at (c .before .before .before .pre) in let h = k .2 in search (needs, h)
+mul-result c = let e = c .before .self .given .1 in let k = rw e at (c .before .before .before .pre) in let h = k .2 in search (needs, h)
 
 enum-told : tie.Need-enum-told
 enum-told c = search needs
@@ -24,7 +24,7 @@ enum-told-3 c = search needs
 
 returns : tie.Need-returns
 unfolding rowValueCount rowCount
-returns c = let e = c .before .answer .given .1 in rw e refl
+returns c = let e = c .before .self .given .1 in rw e refl
 
 returns-2 : tie.Need-returns-2
 unfolding rowValueCount rowCount
@@ -42,7 +42,7 @@ pub row-values-spec : {M : Type 1} → statement M
 row-values-spec =
     tie.close
     (tie.spec
-    enum-known-answer
+    enum-known-self
     mul-result
     enum-told
     enum-told-2
