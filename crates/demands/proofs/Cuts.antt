@@ -11,6 +11,7 @@ use mathlib.Core.Bool.{true}
 use mathlib.Core.List.{List, [], _∷_, _++_}
 use lib.ListN.{length}
 use Rattle.task.specs.Loops.{over}
+use Rattle.task.specs.Sizes.{limits}
 use Rattle.task.specs.Task.{Task, State, Accepted, stateCount, isState}
 use Rattle.blocks.specs.declared.Cut.{Cut}
 use Rattle.blocks.specs.Blocks.{accepted}
@@ -50,7 +51,7 @@ module _ (s : List ℕ) (room : ℕ) (cuts rows : List ℕ) {a : Answer} {c l : 
   pub ran : said.Ran s room cuts rows a c l
   ran = said.run-says s room cuts rows done kept
 
-  pub accepted-and-room : Accepted t × (1 ≤ room) × (room ≤ 256)
+  pub accepted-and-room : Accepted t × (1 ≤ room) × (room ≤ limits .blocks)
   accepted-and-room = (ran .model, ran .some, ran .few)
 
   -- the cuts that were made
@@ -80,7 +81,7 @@ module _ (s : List ℕ) (room : ℕ) (cuts rows : List ℕ) {a : Answer} {c l : 
   pub blocks-are-cuts-plus-one : blocksTold a ≡ length made + 1
   blocks-are-cuts-plus-one = blocks-said t room made rows l a (ran .says)
 
-  pub blocks-within : (1 ≤ blocksTold a) × (blocksTold a ≤ room) × (room ≤ 256)
+  pub blocks-within : (1 ≤ blocksTold a) × (blocksTold a ≤ room) × (room ≤ limits .blocks)
   blocks-within = (omega (arith, blocks-are-cuts-plus-one), omega (arith, blocks-are-cuts-plus-one, ran .within), ran .few)
 
   -- with room for N or more the run never ends open
@@ -103,7 +104,7 @@ module _ (s : List ℕ) (room : ℕ) (cuts rows : List ℕ) {r : ℕ} {c l : Lis
   pub had : entry.Made s room cuts rows done
   had = entry.entry-says s room cuts rows done kept
 
-  pub entry-accepted-and-room : Accepted u × (1 ≤ room) × (room ≤ 256)
+  pub entry-accepted-and-room : Accepted u × (1 ≤ room) × (room ≤ limits .blocks)
   entry-accepted-and-room = (had .model, had .some, had .few)
 
   abbrev pub entry-made : List Cut
@@ -127,7 +128,7 @@ module _ (s : List ℕ) (room : ℕ) (cuts rows : List ℕ) {r : ℕ} {c l : Lis
   pub entry-blocks : blocks r ≡ length entry-made + 1
   entry-blocks = had .tells .blocks-are
 
-  pub entry-blocks-within : (1 ≤ blocks r) × (blocks r ≤ room) × (room ≤ 256)
+  pub entry-blocks-within : (1 ≤ blocks r) × (blocks r ≤ room) × (room ≤ limits .blocks)
   entry-blocks-within = (omega (arith, entry-blocks), omega (arith, entry-blocks, had .within), had .few)
 
   pub entry-never-open : stateCount u ≤ room → kind r ≡ 3 → ⊥

@@ -12,6 +12,7 @@ use Rattle.task.specs.declared.Step.{Step}
 use Rattle.task.specs.Loops.{over}
 use Rattle.task.specs.Task.{Task, State, Accepted, stateCount, costOf, isState, start, costs}
 use Rattle.task.proofs.TaskLaws.{start-state}
+use Rattle.task.specs.Sizes.{limits, mostCost}
 use Rattle.blocks.specs.declared.Cut.{Cut}
 use Rattle.blocks.specs.Blocks.{accepted}
 use Rattle.distances.specs.Distances.{NoMore, estimate}
@@ -36,7 +37,7 @@ use Rattle.demands.proofs.Refusals.{entry-made, entry-refused}
 use Rattle.run_laws.proofs.Flaws.{OnePerFlaw, one-per-flaw}
 use Rattle.run_laws.proofs.Answers.{none-falls}
 
-pub costs-few : (t : Task) → ((s : Step) → costOf t s ≤ 65535) → (ss : List Step) → costs t ss ≤ length ss * 65535
+pub costs-few : (t : Task) → ((s : Step) → costOf t s ≤ mostCost) → (ss : List Step) → costs t ss ≤ length ss * mostCost
 unfolding costs
 costs-few t h [] = omega arith
 costs-few t h (s ∷ ss) = omega (arith, h s, costs-few t h ss)
@@ -45,7 +46,7 @@ costs-few t h (s ∷ ss) = omega (arith, h s, costs-few t h ss)
 pub record PlanTold (t : Task) (r : ℕ) (bytes₀ bytes : List ℕ) : Type 0 where
   pub list : List Step
   pub count : steps r ≡ length list
-  pub short : length list < 256
+  pub short : length list < limits .blocks
   pub cost : value r ≡ costs t list
   pub written : bytes ≡ over (bytesOf (listed rowPlace (rows t list))) bytes₀
   pub cheapest : Cheapest t list
@@ -73,7 +74,7 @@ pub record Tells (t : Task) (room : ℕ) (cs : List Cut) (bytes₀ : List ℕ) (
   pub no-plan-right : kind r ≡ 2 → NoPlanTold t r bytes₀ bytes
   pub open-right : kind r ≡ 3 → OpenTold t r room cs bytes₀ bytes
 
-module _ (t : Task) (v : Accepted t) (room : ℕ) (few : room ≤ 256) (cs : List Cut) (ok : accepted t cs ≡ true) (fit : length cs + 1 ≤ room) (bytes₀ : List ℕ) where
+module _ (t : Task) (v : Accepted t) (room : ℕ) (few : room ≤ limits .blocks) (cs : List Cut) (ok : accepted t cs ≡ true) (fit : length cs + 1 ≤ room) (bytes₀ : List ℕ) where
   abbrev Told : run.Answer → Type 0
   Told a = Tells t room cs bytes₀ (answerNumber (told t (length cs + 1) a)) (over (bytesOf (listed rowPlace (rowsOf t a))) bytes₀)
 
@@ -133,7 +134,7 @@ module _ (s : List ℕ) (room : ℕ) (cuts rows₀ : List ℕ) {r : ℕ} {cuts�
   pub record Made : Type 0 where
     pub model : Accepted t
     pub some : 1 ≤ room
-    pub few : room ≤ 256
+    pub few : room ≤ limits .blocks
     pub made : List Cut
     pub listed-cuts : cuts′ ≡ over (bytesOf (listed cutPlace made)) cuts
     pub ok : accepted t made ≡ true
@@ -145,9 +146,9 @@ module _ (s : List ℕ) (room : ℕ) (cuts rows₀ : List ℕ) {r : ℕ} {cuts�
   unfolding runChecks judgeSheet taskOn
   accepted-model z = accepted-task s (neither (refusal (sheetChecks s)) _ (sym (refusal-append (sheetChecks s) _) ∙ z) .0)
 
-  room-inside : R ≡ 0 → (1 ≤ room) × (room ≤ 256)
+  room-inside : R ≡ 0 → (1 ≤ room) × (room ≤ limits .blocks)
   unfolding runChecks roomChecks
-  room-inside z = inside-means 1 256 room (passed 7 (outside 1 256 room) _ (λ y. omega arith) (neither (refusal (sheetChecks s)) _ (sym (refusal-append (sheetChecks s) _) ∙ z) .1) .0)
+  room-inside z = inside-means 1 (limits .blocks) room (passed 7 (outside 1 (limits .blocks) room) _ (λ y. omega arith) (neither (refusal (sheetChecks s)) _ (sym (refusal-append (sheetChecks s) _) ∙ z) .1) .0)
 
   -- where no check applies, the run is made
   pub entry-ran : R ≡ 0 → Made

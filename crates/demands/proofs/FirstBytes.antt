@@ -1,7 +1,7 @@
 -- Demand 1, of files longer than the program reads (decision 50): "Every file .. is accepted or refused by the numbers in 01." And 01, "Sheets": "the largest
 -- sheet has 3,365 bytes". Every field that a sheet can have lies within them, so that a longer front of a sheet is accepted or refused as the whole is, and the
 -- bytes past the first 4,096 change nothing that is printed for a file.
-use Prim.Native.Nat.{ℕ, suc, _+_, _*_, _≤_, _<_}
+use Prim.Native.Nat.{ℕ, suc, _+_, _-_, _*_, _≤_, _<_}
 use native.Mathlib.Omega.{arith}
 use native.Mathlib.Decide.{decLt, ℕ-discrete}
 use mathlib.Core.Path.{_≡_, refl, sym, ap, _∙_, subst}
@@ -10,6 +10,7 @@ use lib.Dec.{ltb}
 use lib.ListN.{length, take, drop, length-drop}
 use lib.Seq.{length-take-le, take-all, take-add, drop-at}
 use borrow.Author.Tests.{le-ltb}
+use Rattle.task.specs.Sizes.{limits}
 use Rattle.fields.specs.Bits.{fieldAt}
 use Rattle.fields.specs.Judging.{Field, Entry, onSheet, judged, refusal}
 use Rattle.fields.specs.Packing.{bytesFor}
@@ -23,7 +24,7 @@ use Rattle.sheets.proofs.RoundLaws.{Same, same-fields, bits-next}
 use Rattle.sheet_laws.proofs.Largest.{largest}
 use Rattle.running.specs.declared.Answer.the-variants.{Refused}
 use Rattle.running.specs.Running.{roomCheck}
-use Rattle.lines.specs.Lines.{firstLine, printed, Put, Prints}
+use Rattle.lines.specs.Lines.{inputBytes, firstLine, printed, Put, Prints}
 use Rattle.demands.specs.Files.{roomIn, sheetIn, fileChecks}
 use Rattle.demands.proofs.Printed.{runLines, printed-is}
 
@@ -54,7 +55,7 @@ module _ (b : ℕ) (large : 3365 < b) (s : List ℕ) (long : b ≤ length s) whe
   abbrev m : ℕ
   m = stepsOf s
 
-  module _ (hn : n ≤ 16) (hm : m ≤ 128) where
+  module _ (hn : n ≤ limits .columns) (hm : m ≤ limits .steps) where
     within : (j : ℕ) → j < m → modelBits n j + 16 + n * 12 ≤ 26913
     within j h = omega (arith, bits-next n j, bits-le n (suc j) hn (omega arith))
 
@@ -144,9 +145,9 @@ first-bytes-printed b large file = split (decLt (length file) (2 + b))
         ∙ sym (too-long file (omega arith))
 
 -- the bytes past the first 4,096 change nothing
-pub printed-reads : (file : List ℕ) → printed (take 4096 file) ≡ printed file
-printed-reads = first-bytes-printed 4094 (omega arith)
+pub printed-reads : (file : List ℕ) → printed (take inputBytes file) ≡ printed file
+printed-reads = first-bytes-printed (inputBytes - 2) (omega arith)
 
 -- so what the program prints for the bytes that it has read is what it has to print for the whole input
-pub put-printed-reads : (file out : List ℕ) {r : ℕ} {out′ : List ℕ} → Prints (take 4096 file) out r out′ → Prints file out r out′
+pub put-printed-reads : (file out : List ℕ) {r : ℕ} {out′ : List ℕ} → Prints (take inputBytes file) out r out′ → Prints file out r out′
 put-printed-reads file out {r} {out′} = subst (λ (x : List ℕ). Put 0 x out r out′) (printed-reads file)

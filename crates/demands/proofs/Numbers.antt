@@ -9,7 +9,7 @@ use lib.ListN.{length, getD, List·getD-append}
 use Rattle.task.specs.Loops.{over}
 use Rattle.fields.specs.Judging.{each}
 use Rattle.fields.proofs.PlaceLaws.{each-length, each-at}
-use Rattle.values.specs.Values.{valueBytes, bytesAt, bytesOf, valueOn}
+use Rattle.values.specs.Values.{valueBytes, bytesAt, bytesOf, valueOn, byte}
 use Rattle.values.proofs.ValueLaws.{four}
 
 -- ---- an answer's parts, as the header takes them
@@ -17,10 +17,10 @@ abbrev pub kind : ℕ → ℕ
 kind r = r / 2 ^ 56
 
 abbrev pub blocks : ℕ → ℕ
-blocks r = r / 2 ^ 44 % 4096
+blocks r = r / 2 ^ 44 % 2 ^ 12
 
 abbrev pub steps : ℕ → ℕ
-steps r = r / 2 ^ 32 % 4096
+steps r = r / 2 ^ 32 % 2 ^ 12
 
 abbrev pub value : ℕ → ℕ
 value r = r % 2 ^ 32
@@ -31,15 +31,15 @@ pub record Parts (r k b n v : ℕ) : Type 0 where
   pub steps-is : steps r ≡ n
   pub value-is : value r ≡ v
 
-pub takes-apart : (k b n v : ℕ) → b < 4096 → n < 4096 → v < 2 ^ 32 → Parts (k * 2 ^ 56 + b * 2 ^ 44 + n * 2 ^ 32 + v) k b n v
+pub takes-apart : (k b n v : ℕ) → b < 2 ^ 12 → n < 2 ^ 12 → v < 2 ^ 32 → Parts (k * 2 ^ 56 + b * 2 ^ 44 + n * 2 ^ 32 + v) k b n v
 takes-apart k b n v hb hn hv = record { kind-is = omega arith; blocks-is = omega arith; steps-is = omega arith; value-is = omega arith }
 
 -- ---- value k of a list of bytes, as a C program takes it
-four-bytes : (v : ℕ) → v < 2 ^ 32 → v / 2 ^ 24 % 256 * 2 ^ 24 + v / 2 ^ 16 % 256 * 2 ^ 16 + v / 2 ^ 8 % 256 * 2 ^ 8 + v % 256 ≡ v
+four-bytes : (v : ℕ) → v < 2 ^ 32 → v / 2 ^ 24 % byte * 2 ^ 24 + v / 2 ^ 16 % byte * 2 ^ 16 + v / 2 ^ 8 % byte * 2 ^ 8 + v % byte ≡ v
 four-bytes v h =
-    let a : v / 2 ^ 8 / 256 ≡ v / 2 ^ 16 = omega arith in
-    let b : v / 2 ^ 16 / 256 ≡ v / 2 ^ 24 = omega arith in
-    let c : v / 2 ^ 24 % 256 ≡ v / 2 ^ 24 = omega arith in
+    let a : v / 2 ^ 8 / byte ≡ v / 2 ^ 16 = omega arith in
+    let b : v / 2 ^ 16 / byte ≡ v / 2 ^ 24 = omega arith in
+    let c : v / 2 ^ 24 % byte ≡ v / 2 ^ 24 = omega arith in
     omega (arith, a, b, c)
 
 module _ (vs bytes₀ : List ℕ) (k : ℕ) (h : k < length vs) where
@@ -53,5 +53,5 @@ module _ (vs bytes₀ : List ℕ) (k : ℕ) (h : k < length vs) where
   pub value-back : getD vs k 0 < 2 ^ 32 → valueOn (over (bytesOf vs) bytes₀) k ≡ getD vs k 0
   unfolding valueBytes
   value-back small =
-      let z : getD (over (bytesOf vs) bytes₀) (k * 4) 0 ≡ getD vs k 0 / 2 ^ 24 % 256 = rw add-zero at (byte-at 0 (omega arith)) in
+      let z : getD (over (bytesOf vs) bytes₀) (k * 4) 0 ≡ getD vs k 0 / 2 ^ 24 % byte = rw add-zero at (byte-at 0 (omega arith)) in
       rw (z, byte-at 1 (omega arith), byte-at 2 (omega arith), byte-at 3 (omega arith)) (four-bytes (getD vs k 0) small)

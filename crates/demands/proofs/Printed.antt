@@ -31,7 +31,7 @@ use Rattle.run.specs.Run.{plan, noPlan, «open»}
 use Rattle.run.proofs.RunLaws.{Right, run-right}
 use Rattle.running.specs.declared.Answer.the-variants.{Refused}
 use Rattle.running.specs.Running.{told}
-use Rattle.lines.specs.Lines.{width, decimal, labelled, firstLine, madeLines, ranLines, printed, Prints}
+use Rattle.lines.specs.Lines.{outputBytes, width, decimal, labelled, firstLine, madeLines, ranLines, printed, Prints}
 use Rattle.lines.proofs.LengthLaws.{printed-fits, ran-accepted}
 use Rattle.demands.specs.Files.{roomIn, sheetIn, fileChecks, digitsOn, refusalOn}
 
@@ -119,7 +119,7 @@ module _ (file : List ℕ) where
         (judges _ refusedWith numbers refl (fileChecks file) file-numbers (showing runLines out) none (seen (firstLine (Refused R)) ∙ refused-tells))
 
 -- ---- put_printed
-module _ (file out : List ℕ) (room : 65536 ≤ length out) {r : ℕ} {out′ : List ℕ} (done : Prints file out r out′) where
+module _ (file out : List ℕ) (room : outputBytes ≤ length out) {r : ℕ} {out′ : List ℕ} (done : Prints file out r out′) where
   put-shown : shown r out′ ≡ showing (printed file) out
   unfolding over
   put-shown =

@@ -8,6 +8,7 @@ use lib.ListN.{length, replicate, length-replicate}
 use borrow.Author.Tests.{eq-eqb}
 use Rattle.task.specs.declared.Step.{Step}
 use Rattle.task.specs.Loops.{over}
+use Rattle.task.specs.Sizes.{mostSteps}
 use Rattle.task.specs.Task.{Task, start, costs}
 use Rattle.blocks.specs.declared.Cut.{Cut}
 use Rattle.distances.specs.Distances.{estimate}
@@ -80,7 +81,7 @@ module _ (s : List ℕ) (room : ℕ) (cuts : List ℕ) (rs : List Row) where
     -- demands 2 and 3 of the answer and the cuts: it is `run`, with a list of values for as many places
     module _ (kept : number a ≡ 0) where
       abbrev values : List ℕ
-      values = replicate (usable 255 (length rs) * 3) 0
+      values = replicate (usable mostSteps (length rs) * 3) 0
 
       abbrev ending : running.Outcome
       ending = running.running s room cuts values
@@ -91,7 +92,7 @@ module _ (s : List ℕ) (room : ℕ) (cuts : List ℕ) (rs : List Row) where
       pub same-run : running.outcome a c (ending .rows) ≡ ending
       unfolding running.running running.made
       same-run =
-          let z : refusal (running.runChecks s room cuts values) ≡ 0 = sym (checks-same s room cuts rs values (length-replicate {A = ℕ} (usable 255 (length rs) * 3) 0)) ∙ sym (row-run-judged s room cuts rs done .told) ∙ kept in
+          let z : refusal (running.runChecks s room cuts values) ≡ 0 = sym (checks-same s room cuts rs values (length-replicate {A = ℕ} (usable mostSteps (length rs) * 3) 0)) ∙ sym (row-run-judged s room cuts rs done .told) ∙ kept in
           simp (eq-eqb (refusal (running.runChecks s room cuts values)) 0 z)
           (rw (ap (λ (x : lent.Outcome). x .answer) same-made, ap (λ (x : lent.Outcome). x .cuts) same-made) refl)
 

@@ -17,7 +17,7 @@ use borrow.Author.Tests.{ne-eqb}
 use Rattle.task.specs.declared.Position.{Position}
 use Rattle.task.specs.declared.Step.{Step}
 use Rattle.task.specs.Loops.{over}
-use Rattle.task.specs.Sizes.{limits}
+use Rattle.task.specs.Sizes.{limits, mostCost, mostTenths}
 use Rattle.task.specs.Task.{Task, State, Accepted, position, stepCount, costOf, start, taken, reaches, costs, IsPlan}
 use Rattle.task.proofs.LoopLaws.{and-left, and-right}
 use Rattle.task.proofs.TaskLaws.{first-step}
@@ -106,7 +106,7 @@ module _ (t : Task) (v : Accepted t) where
 
 -- step, tenths and tenths left
 abbrev pub RowSized : Row → Type 0
-RowSized r = (r .step .0 < limits .steps) × (r .tenths < 65536) × (r .left ≤ (limits .blocks - 1) * 65535)
+RowSized r = (r .step .0 < limits .steps) × (r .tenths ≤ mostCost) × (r .left ≤ mostTenths)
 
 module _ (t : Task) where
   -- the row of a plan's step: what it costs, and what those after it cost

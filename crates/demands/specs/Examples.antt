@@ -243,18 +243,17 @@ list =
     ∷ []
 
 pub examples : map answered list ≡ list
-unfolding answered list refusedOf taskOf told
-    sheet.judgeSheet sheet.sheetChecks sheet.entries sheet.fieldsPart sheet.headerPart sheet.columnPart sheet.marksPart sheet.stepPart sheet.fillPart sheet.modelBits sheet.columnOn sheet.costOn sheet.marksOn
-    sheet.sheetWith sheet.ofSheet judging.outside judging.checksOf judging._then_ judging.refusal judging.judged judging.each packing.bytesFor bits.bitAt bits.fieldAt
-    columnSaid changeSaid stepSaid taskIn taskOn marked loops.all loops.first loops.tab
-    task.columnCount task.stepCount task.sizeOf task.startAt task.goalAt task.costOf task.changeAt task.needAt task.effectAt task.eachColumn task.perColumn
-    task.at task.meets task.changed task.start task.canTake task.taken task.isGoal task.costs
-    blocks.holds blocks.only blocks.every blocks.common blocks.without blocks.isEmpty blocks.setAt blocks.blockAt blocks.leadsAt blocks.goalIn blocks.withSet
-    blocks.cutBlock blocks.cutAll blocks.inBlock blocks.goalBlock blocks.leads blocks.whole blocks.blocksOf blocks.blockOf
-    distances.leadsTo distances.plus distances.zeroFar distances.nearer distances.pick distances.least distances.via distances.farOf distances.onward distances.better
-    distances.round distances.rounds distances.distances distances.stateFar distances.estimate
-    run.keeps run.nextHop run.trace run.wantedAt run.allowed run.backAt run.goalWanted run.needWanted run.backWanted run.walk run.cutColumn run.cutFor
-    run.lookWalk run.lookFrom run.look run.cutOf run.endOf run.refine run.run run.rows run.rowsOf run.blockCount
+unfolding answered list refusedOf taskOf told sheet.judgeSheet sheet.sheetChecks sheet.entries sheet.fieldsPart sheet.headerPart sheet.columnPart
+    sheet.marksPart sheet.stepPart sheet.fillPart sheet.modelBits sheet.columnOn sheet.costOn sheet.marksOn sheet.sheetWith sheet.ofSheet judging.outside
+    judging.checksOf judging._then_ judging.refusal judging.judged judging.each packing.bytesFor bits.bitAt bits.fieldAt columnSaid changeSaid stepSaid
+    taskIn taskOn marked loops.all loops.first loops.tab task.columnCount task.stepCount task.sizeOf task.startAt task.goalAt task.costOf task.changeAt
+    task.needAt task.effectAt task.eachColumn task.perColumn task.at task.meets task.changed task.start task.canTake task.taken task.isGoal task.costs
+    blocks.holds blocks.only blocks.every blocks.common blocks.without blocks.isEmpty blocks.setAt blocks.blockAt blocks.leadsAt blocks.goalIn
+    blocks.withSet blocks.cutBlock blocks.cutAll blocks.inBlock blocks.goalBlock blocks.leads blocks.whole blocks.blocksOf blocks.blockOf distances.leadsTo
+    distances.plus distances.zeroFar distances.nearer distances.pick distances.least distances.via distances.farOf distances.onward distances.better
+    distances.round distances.rounds distances.distances distances.stateFar distances.estimate run.keeps run.nextHop run.trace run.wantedAt run.allowed
+    run.backAt run.goalWanted run.needWanted run.backWanted run.walk run.cutColumn run.cutFor run.lookWalk run.lookFrom run.look run.cutOf run.endOf
+    run.refine run.run run.rows run.rowsOf run.blockCount
 examples = refl
 
 -- ---- N, the number of states that the columns allow: 6 for the small re-thread

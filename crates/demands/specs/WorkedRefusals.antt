@@ -5,6 +5,7 @@ use mathlib.Core.Path.{_≡_, refl}
 use mathlib.Core.List.{List, [], _∷_, _++_, map}
 use lib.ListN.{replicate}
 use Rattle.task.specs.Loops as loops
+use Rattle.task.specs.Sizes.{limits}
 use Rattle.task.specs.Task as task
 use Rattle.task.specs.Tables.{marked}
 use Rattle.fields.specs.Bits as bits
@@ -126,8 +127,8 @@ list =
     ∷ writesCuts model 1 (0 ∷ 0 ∷ 2 ∷ []) (places 15) gets 0
     ∷ writesCuts model 1 (0 ∷ 0 ∷ 2 ∷ []) (places 14) gets 8
     -- the model comes first, then the count, then the cuts, each before 8
-    ∷ writesCuts halfWritten 256 [] [] gets 1
-    ∷ writesCuts model 256 [] [] gets 9
+    ∷ writesCuts halfWritten (limits .blocks) [] [] gets 1
+    ∷ writesCuts model (limits .blocks) [] [] gets 9
     ∷ writesCuts model 2 [] [] gets 1
     ∷ writesCuts model 1 (0 ∷ 0 ∷ []) [] gets 1
     ∷ writesCuts model 1 (0 ∷ 0 ∷ 3 ∷ []) [] gets 9

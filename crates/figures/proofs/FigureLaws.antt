@@ -13,7 +13,7 @@ use mir.Syntax.{Width, w32}
 use mir.Val.{SFits, toZ, ofZ, hbits}
 use mir.Facts.{toZ-pos, toZ-ofZ}
 use borrow.Author.Tests.{eq-eqb, ne-eqb}
-use Rattle.task.specs.Sizes.{limits}
+use Rattle.task.specs.Sizes.{limits, mostCost}
 use Rattle.task.specs.Task.{Tenths}
 use Rattle.fields.specs.Judging.{each}
 use Rattle.fields.specs.Places.{puts}
@@ -58,7 +58,7 @@ module _ (before after : ℕ) where
       won-reads = rw (ne-eqb after (limits .«no_way») way) (sub-reads w32 before after (omega arith) (omega arith))
 
       -- paid less that
-      module _ (paid : ℕ) (p : paid ≤ 65535) {z : ℤ} (is : z ≡ wonBy before after) where
+      module _ (paid : ℕ) (p : paid ≤ mostCost) {z : ℤ} (is : z ≡ wonBy before after) where
         difference : z ≡ pos before -ℤ pos after
         unfolding wonBy
         difference = is ∙ rw (ne-eqb after (limits .«no_way») way) refl
@@ -80,7 +80,7 @@ module _ (before after : ℕ) where
         detour-reads = toZ-ofZ detour-fits ∙ lost ∙ rw (ne-eqb after (limits .«no_way») way) refl
 
 -- ---- a row as it is put
-module _ (paid before after : ℕ) (p : paid ≤ 65535) (b : before ≤ limits .«no_way») (a : after ≤ limits .«no_way») where
+module _ (paid before after : ℕ) (p : paid ≤ mostCost) (b : before ≤ limits .«no_way») (a : after ≤ limits .«no_way») where
   won-small : SFits w32 (wonBy before after)
   unfolding wonBy dash
   won-small = either (eqb after (limits .«no_way»))

@@ -2,7 +2,7 @@
 ghost use mathlib.Core.Path.{_≡_};
 ghost use Prim.Native.Nat.{ℕ, _+_, _*_, _≤_, _<_};
 ghost use lib.ListN.{length, getD};
-ghost use Rattle.task.specs.Sizes.{limits};
+ghost use Rattle.task.specs.Sizes.{limits, mostCost};
 ghost use Rattle.fields.specs.Judging.{each};
 ghost use Rattle.fields.specs.Places.{puts};
 ghost use Rattle.figures.specs.Figures.{wonBy, detourBy, rowOf, rowBy};
@@ -23,7 +23,7 @@ fn won(before: u32, after: u32) -> i32
 
 // The detour: paid less won, or a dash.
 fn detour(paid: u32, before: u32, after: u32) -> i32
-    requires { ⌜ (paid ≤ 65535) × (before ≤ limits .«no_way») × (after ≤ limits .«no_way») ⌝ }
+    requires { ⌜ (paid ≤ mostCost) × (before ≤ limits .«no_way») × (after ≤ limits .«no_way») ⌝ }
     ensures { λ r. ⌜ r ≡ detourBy paid before after ⌝ }
 {
     if after == Model::NO_WAY {
@@ -34,7 +34,7 @@ fn detour(paid: u32, before: u32, after: u32) -> i32
 
 // Puts row i: three values.
 fn put_row(i: usize, paid: u32, before: u32, after: u32, rows: &mut [i32])
-    requires { ⌜ (i < limits .log) × (i * 3 + 3 ≤ length (now rows)) × (paid ≤ 65535) × (before ≤ limits .«no_way») × (after ≤ limits .«no_way») ⌝ }
+    requires { ⌜ (i < limits .log) × (i * 3 + 3 ≤ length (now rows)) × (paid ≤ mostCost) × (before ≤ limits .«no_way») × (after ≤ limits .«no_way») ⌝ }
     ensures { λ _. ⌜ now (rows .exit) ≡ puts (i * 3) (rowOf paid before after) (now (rows .entry)) ⌝ }
 {
     let place = i * 3;

@@ -11,6 +11,7 @@ use lib.ListN.{length, take, drop, length-append}
 use lib.Seq.{length-take-le}
 use borrow.Author.Tests.{eq-eqb, ne-eqb, ltb-false}
 use Rattle.task.specs.Loops.{over}
+use Rattle.task.specs.Sizes.{limits}
 use Rattle.task.specs.Task.{Task}
 use Rattle.task.proofs.LoopLaws.{tab-length, true-or-false}
 use Rattle.fields.specs.Judging.{check, refusal, each, _then_}
@@ -25,7 +26,7 @@ use Rattle.asking.specs.Question as question
 use Rattle.asking.proofs.AnswerLaws.{few-states}
 use Rattle.values.specs.Usable.{usable}
 use Rattle.values.proofs.UsableLaws.{usable-is, same-test}
-use Rattle.values.specs.Values.{bytesAt, valuesOn}
+use Rattle.values.specs.Values.{tooMany, bytesAt, valuesOn}
 use Rattle.values.proofs.ValueLaws.{list-over}
 use Rattle.historian.specs.Entries.{askChecks, askOutcome, askEntry, EntryAsks}
 use Rattle.historian.proofs.WholeLaws.{whole-values}
@@ -53,7 +54,7 @@ module _ (model s states l : List ℕ) where
     unfolding asking
     not-made z = e ∙ simp (ne-eqb N 0 z)
 
-    fits : N ≡ 0 → (n ≤ 64) × (n ≤ length l)
+    fits : N ≡ 0 → (n ≤ limits .states) × (n ≤ length l)
     unfolding questionChecks
     fits z =
         let p = neither (refusal (cutSheetChecks model s)) _ (sym (refusal-append (cutSheetChecks model s) _) ∙ z) .1 in
@@ -63,7 +64,7 @@ module _ (model s states l : List ℕ) where
 
     record Answered (k : ℕ) : Type 0 where
       ok : N ≡ 0
-      few : k ≤ 64
+      few : k ≤ limits .states
       there : k ≤ length l
       within : k ≤ length l′
       list : l′ ≡ over estimates l
@@ -107,7 +108,7 @@ module _ (model s states l : List ℕ) where
             (z, q)
 
   -- ---- 8 is judged on the places lent: a list that has as many of them as a question can have states
-  module _ (bytes : List ℕ) (most : ℕ) (all : ltb most 64 ≡ false) (lent : length l ≡ usable most (length bytes / 4)) where
+  module _ (bytes : List ℕ) (most : ℕ) (all : ltb most (limits .states) ≡ false) (lent : length l ≡ usable most (length bytes / 4)) where
     abbrev TailSame : Type 0
     TailSame = refusal (check 11 (badStates t states) ∷ tooFew n (valuesOn bytes) ∷ []) ≡ refusal (check 11 (badStates t states) ∷ tooFew n l ∷ [])
 
@@ -123,7 +124,7 @@ module _ (model s states l : List ℕ) where
             let k = few-states t states h in
             ap (λ (x : Bool). refusal (check 11 (badStates t states) ∷ check 8 x ∷ []))
             (same-test (length (valuesOn bytes)) n (length l) n (λ p. omega (arith, u .there, whole-values bytes))
-            (λ p. let q = u .enough n (omega (arith, k, ltb-false most 64 all)) (omega (arith, whole-values bytes)) in omega arith))
+            (λ p. let q = u .enough n (omega (arith, k, ltb-false most (limits .states) all)) (omega (arith, whole-values bytes)) in omega arith))
 
     checks-same : refusal (askChecks model s states bytes) ≡ N
     unfolding questionChecks
@@ -146,13 +147,13 @@ module _ (model s states l : List ℕ) where
 
 -- ---- the same with the first values of a list to work in
 module _ (model s states bytes list : List ℕ) (n : ℕ) {a : Asked} {l′ : List ℕ} (e : Asks model s states (take n list) a l′) (h : n ≤ length list) where
-  pub asked-go : (k : ℕ) → a ≡ Estimates k → n * 4 ≤ length bytes → (k < 1024) × (k ≤ length (l′ ++ drop n list)) × (k * 4 ≤ length bytes)
+  pub asked-go : (k : ℕ) → a ≡ Estimates k → n * 4 ≤ length bytes → (k < tooMany) × (k ≤ length (l′ ++ drop n list)) × (k * 4 ≤ length bytes)
   asked-go k q b =
       let w = answered model s states (take n list) e k q in
       (omega (arith, w .few), omega (arith, w .within, length-append l′ (drop n list)), omega (arith, w .there, length-take-le n list h))
 
   -- the places lent are as many as can matter
-  module _ (most : ℕ) (p : n ≡ usable most (length bytes / 4)) (all : ltb most 64 ≡ false) where
+  module _ (most : ℕ) (p : n ≡ usable most (length bytes / 4)) (all : ltb most (limits .states) ≡ false) where
     pub asked-in : (k : ℕ) → a ≡ Estimates k → {bytes′ : List ℕ} → bytes′ ≡ puts 0 (each k (bytesAt (l′ ++ drop n list))) bytes → EntryAsks model s states bytes 0 bytes′
     asked-in k q = told model s states (take n list) bytes most all (length-take-le n list h ∙ p) e k q (drop n list)
 

@@ -22,7 +22,7 @@ use Rattle.fields.proofs.JudgingLaws.{applies, refusal-append}
 use Rattle.sheets.specs.LentTables.{tooFew}
 use Rattle.sheets.specs.Holding.{taskOn}
 use Rattle.cut_sheets.specs.CutSheet.{cutSheetChecks, cutsOf}
-use Rattle.values.specs.Values.{bytesAt, valueOn, valuesOn, twos, signedBytes}
+use Rattle.values.specs.Values.{tooMany, bytesAt, valueOn, valuesOn, twos, signedBytes}
 use Rattle.values.proofs.ValueLaws.{signed-over, nothing-put}
 use Rattle.replay.specs.declared.Replayed.{Replayed}
 use Rattle.replay.specs.declared.Replayed.the-variants.{Rows, Stopped, Refused}
@@ -232,7 +232,7 @@ module _ (log steps : List ℕ) (n : ℕ) {steps′ : List ℕ} (got-is : steps�
     pub row-few : n ≤ limits .log + 1 → rowNamed a ≤ limits .log + 1
     row-few h = omega (arith, facts .named, tab-length n (valueOn log))
 
-    pub rows-go : {k : ℕ} → k ≡ rowCount a * 3 → (k < 1024) × (k ≤ length (list′ ++ drop (m * 3) list)) × (k * 4 ≤ length rows)
+    pub rows-go : {k : ℕ} → k ≡ rowCount a * 3 → (k < tooMany) × (k ≤ length (list′ ++ drop (m * 3) list)) × (k * 4 ≤ length rows)
     rows-go z =
         (omega (arith, rows-few), omega (arith, facts .within, length-append list′ (drop (m * 3) list)), omega (arith, facts .fits, lent, usable-is (limits .log) (length rows / 12) .there))
 

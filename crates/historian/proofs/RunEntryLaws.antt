@@ -9,7 +9,7 @@ use lib.ListN.{length, take, drop, length-append}
 use lib.Seq.{length-take-le}
 use borrow.Author.Tests.{eq-eqb, ne-eqb}
 use Rattle.task.specs.Loops.{over}
-use Rattle.task.specs.Sizes.{limits, mostSteps}
+use Rattle.task.specs.Sizes.{limits, mostSteps, mostValues}
 use Rattle.fields.specs.Judging.{refusal, each}
 use Rattle.fields.specs.Places.{puts}
 use Rattle.running.specs.declared.Answer.{Answer}
@@ -18,7 +18,7 @@ use Rattle.running.specs.Counts.{cutValueCount, rowCount, rowValueCount, Counte
 use Rattle.values.specs.Usable.{usable}
 use Rattle.running.proofs.CountLaws as count
 use Rattle.values.proofs.UsableLaws.{usable-is, part-long, missing-same}
-use Rattle.values.specs.Values.{bytesAt, bytesOf, valuesOn}
+use Rattle.values.specs.Values.{tooMany, bytesAt, bytesOf, valuesOn}
 use Rattle.values.proofs.ValueLaws.{list-over, nothing-put}
 use Rattle.historian.specs.Entries.{answerNumber, entryChecks, madeBytes, runOutcome, runEntry, EntryRuns}
 use Rattle.historian.proofs.WholeLaws.{whole-places}
@@ -50,8 +50,8 @@ module _ (s : List ℕ) (room : ℕ) (cuts rows c r : List ℕ) (lc : length c �
     room-for =
         let k = count.known s room c r e in
         record {
-          cut-bytes = omega (arith, k .cuts-fit, lc, usable-is 255 (length cuts / 12) .there);
-          row-bytes = omega (arith, k .rows-fit, lr, usable-is 255 (length rows / 12) .there);
+          cut-bytes = omega (arith, k .cuts-fit, lc, usable-is mostSteps (length cuts / 12) .there);
+          row-bytes = omega (arith, k .rows-fit, lr, usable-is mostSteps (length rows / 12) .there);
         }
 
     -- the entry's outcome
@@ -82,21 +82,21 @@ module _ (s : List ℕ) (room : ℕ) (cutList rowList : List ℕ) (m n : ℕ) {a
   pub counted : Counted a
   counted = known .counted
 
-  pub cuts-go : (cuts : List ℕ) {k : ℕ} → length cutList ≡ 765 → m ≤ 255 → m * 12 ≤ length cuts → k ≡ cutValueCount a
-      → (k < 1024) × (k ≤ length (c′ ++ drop (m * 3) cutList)) × (k * 4 ≤ length cuts)
+  pub cuts-go : (cuts : List ℕ) {k : ℕ} → length cutList ≡ mostValues → m ≤ mostSteps → m * 12 ≤ length cuts → k ≡ cutValueCount a
+      → (k < tooMany) × (k ≤ length (c′ ++ drop (m * 3) cutList)) × (k * 4 ≤ length cuts)
   cuts-go cuts h f w z =
       let l = length-take-le (m * 3) cutList (omega arith) in
       (omega (arith, known .cuts-fit, l), omega (arith, known .cuts-in, length-append c′ (drop (m * 3) cutList)), omega (arith, known .cuts-fit, l))
 
-  pub rows-go : (rows : List ℕ) {k : ℕ} → length rowList ≡ 765 → n ≤ 255 → n * 12 ≤ length rows → k ≡ rowValueCount a
-      → (k < 1024) × (k ≤ length (r′ ++ drop (n * 3) rowList)) × (k * 4 ≤ length rows)
+  pub rows-go : (rows : List ℕ) {k : ℕ} → length rowList ≡ mostValues → n ≤ mostSteps → n * 12 ≤ length rows → k ≡ rowValueCount a
+      → (k < tooMany) × (k ≤ length (r′ ++ drop (n * 3) rowList)) × (k * 4 ≤ length rows)
   rows-go rows h f w z =
       let l = length-take-le (n * 3) rowList (omega arith) in
       (omega (arith, known .rows-fit, l), omega (arith, known .rows-in, length-append r′ (drop (n * 3) rowList)), omega (arith, known .rows-fit, l))
 
-  module _ (cuts rows : List ℕ) (h : (length cutList ≡ 765) × (length rowList ≡ 765)) (p : m ≡ usable 255 (length cuts / 12)) (q : n ≡ usable 255 (length rows / 12)) where
+  module _ (cuts rows : List ℕ) (h : (length cutList ≡ mostValues) × (length rowList ≡ mostValues)) (p : m ≡ usable mostSteps (length cuts / 12)) (q : n ≡ usable mostSteps (length rows / 12)) where
     pub told-in : {k l x : ℕ} {cuts′ rows′ : List ℕ} → k ≡ cutValueCount a → l ≡ rowValueCount a → x ≡ answerNumber a
         → cuts′ ≡ puts 0 (each k (bytesAt (c′ ++ drop (m * 3) cutList))) cuts → rows′ ≡ puts 0 (each l (bytesAt (r′ ++ drop (n * 3) rowList))) rows → EntryRuns s room cuts rows x cuts′ rows′
     told-in k l x y z =
-        entry-told s room cuts rows (take (m * 3) cutList) (take (n * 3) rowList) (part-long 255 (length cuts / 12) cutList (h .0) p) (part-long 255 (length rows / 12) rowList (h .1) q) e (drop (m * 3) cutList) (drop (n * 3) rowList)
+        entry-told s room cuts rows (take (m * 3) cutList) (take (n * 3) rowList) (part-long mostSteps (length cuts / 12) cutList (h .0) p) (part-long mostSteps (length rows / 12) rowList (h .1) q) e (drop (m * 3) cutList) (drop (n * 3) rowList)
         (y ∙ ap (λ (i : ℕ). puts 0 (each i (bytesAt (c′ ++ drop (m * 3) cutList))) cuts) k) (z ∙ ap (λ (i : ℕ). puts 0 (each i (bytesAt (r′ ++ drop (n * 3) rowList))) rows) l) x

@@ -2,7 +2,7 @@
 ghost use mathlib.Core.Path.{_≡_};
 ghost use Prim.Native.Nat.{_+_, _-_, _*_, _≤_};
 ghost use lib.ListN.{length};
-ghost use Rattle.task.specs.Sizes.{limits};
+ghost use Rattle.task.specs.Sizes.{limits, mostValues};
 ghost use Rattle.replay.specs.Replay.{rowCount, rowNamed};
 ghost use Rattle.running.specs.Counts.{Counted};
 ghost use Rattle.historian.specs.Entries.{answerNumber, EntryRuns, EntryAsks};
@@ -52,7 +52,7 @@ fn run_in(
     cuts: &mut [u8],
     rows: &mut [u8],
 ) -> u64
-    requires { ⌜ (length (now «cut_list») ≡ (limits .blocks - 1) * 3) × (length (now «row_list») ≡ (limits .blocks - 1) * 3) ⌝ }
+    requires { ⌜ (length (now «cut_list») ≡ mostValues) × (length (now «row_list») ≡ mostValues) ⌝ }
     ensures { λ r. ⌜ EntryRuns (now (sheet .entry)) room (now (cuts .entry)) (now (rows .entry)) r (now (cuts .exit)) (now (rows .exit)) ⌝ }
 {
     let m = usable_places(Model::BLOCKS - 1, cuts.len() / 12) * 3;

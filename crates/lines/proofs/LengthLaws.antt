@@ -24,16 +24,16 @@ use Rattle.run.specs.Listing.{listed, rowPlace}
 use Rattle.running.specs.declared.Answer.the-variants.{Refused}
 use Rattle.running.specs.Running.{roomCheck, told}
 use Rattle.running.proofs.RowLaws.{three}
-use Rattle.lines.specs.Lines.{decimal, labelled, space, lineEnd, firstLine, rowLine, rowLines, madeLines, ranLines, printed}
+use Rattle.lines.specs.Lines.{decimal, labelled, space, lineEnd, firstLine, rowLine, rowLines, madeLines, ranLines, printed, lineBytes, outputBytes}
 use Rattle.lines.proofs.LineLaws.{decimal-short}
 use Rattle.lines.proofs.PrintedLaws.{label-short, first-short}
 
-each-most : (n : ℕ) (f : ℕ → List ℕ) → ((i : ℕ) → length (f i) ≤ 128) → length (each n f) ≤ n * 128
+each-most : (n : ℕ) (f : ℕ → List ℕ) → ((i : ℕ) → length (f i) ≤ lineBytes) → length (each n f) ≤ n * lineBytes
 unfolding each
 each-most zero f h = omega arith
 each-most (suc n) f h = omega (arith, length-append (each n f) (f n), h n, each-most n f h)
 
-row-short : (list : List ℕ) (i : ℕ) → length (rowLine list i) ≤ 128
+row-short : (list : List ℕ) (i : ℕ) → length (rowLine list i) ≤ lineBytes
 unfolding rowLine
 row-short list i =
     let x = getD list (i * 3) 0 in
@@ -56,7 +56,7 @@ module _ (t : Task) where
   few-rows noPlan h = omega arith
   few-rows («open» e) h = omega arith
 
-  made-short : (o : run.Outcome) → ((ss : List Step) → o .answer ≡ plan ss → length ss < limits .blocks) → length (madeLines t o) ≤ 65536
+  made-short : (o : run.Outcome) → ((ss : List Step) → o .answer ≡ plan ss → length ss < limits .blocks) → length (madeLines t o) ≤ outputBytes
   unfolding madeLines rowLines
   made-short o h =
       let a = told t (run.blockCount o) (o .answer) in
@@ -75,20 +75,20 @@ module _ (s : List ℕ) (room : ℕ) where
       let r = inside-means 1 (limits .blocks) room (passed 7 (outside 1 (limits .blocks) room) [] (λ y. omega arith) (p .1) .0) in
       (accepted-task s (p .0), r .0, r .1)
 
-  ran-short : length (ranLines s room) ≤ 65536
+  ran-short : length (ranLines s room) ≤ outputBytes
   unfolding ranLines
   ran-short = split (ℕ-discrete N 0)
     where
-      split : Dec (N ≡ 0) → length (ranLines s room) ≤ 65536
+      split : Dec (N ≡ 0) → length (ranLines s room) ≤ outputBytes
       split (yes z) =
           let v = ran-accepted z in
           simp (eq-eqb N 0 z) (made-short (taskOn s) (run.run (taskOn s) room) (λ ss e. omega (arith, plan-short (taskOn s) (v .0) room (v .1) ss e, v .2)))
       split (no z) = simp (ne-eqb N 0 z) (omega (arith, first-short (Refused N)))
 
-pub printed-fits : (input : List ℕ) → length (printed input) ≤ 65536
+pub printed-fits : (input : List ℕ) → length (printed input) ≤ outputBytes
 unfolding printed
 printed-fits input = pick-short (ltb (length input) 2)
   where
-    pick-short : (b : Bool) → length (cond b (firstLine (Refused 1)) (ranLines (drop 2 input) (fieldAt input 0 16))) ≤ 65536
+    pick-short : (b : Bool) → length (cond b (firstLine (Refused 1)) (ranLines (drop 2 input) (fieldAt input 0 16))) ≤ outputBytes
     pick-short true = omega (arith, first-short (Refused 1))
     pick-short false = ran-short (drop 2 input) (fieldAt input 0 16)

@@ -18,7 +18,7 @@ use Rattle.fields.specs.Judging.{each}
 use Rattle.fields.specs.Places.{puts}
 use Rattle.fields.proofs.JudgingLaws.{each-more}
 use Rattle.fields.proofs.PlaceLaws.{puts-append, puts-length}
-use Rattle.lines.specs.Lines.{width, decimal, labelled, space, lineEnd, rowLine, Put}
+use Rattle.lines.specs.Lines.{width, decimal, labelled, space, lineEnd, rowLine, Put, lineBytes}
 
 -- one after the other
 pub join : {at r r′ : ℕ} {xs ys l l′ l″ : List ℕ} → Put at xs l r l′ → Put r ys l′ r′ l″ → Put at (xs ++ ys) l r′ l″
@@ -128,7 +128,7 @@ abbrev lineOf : ℕ → ℕ → ℕ → ℕ → List ℕ
 lineOf i d e f = decimal (i + 1) ++ (labelled space d ++ (labelled space e ++ (labelled space f ++ lineEnd)))
 
 pub row-joined : (list : List ℕ) (i a b c : ℕ) {at r r₁ r₂ r₃ r₄ : ℕ} {l l₁ l₂ l₃ l₄ l₅ : List ℕ} → a ≡ getD list (i * 3) 0 → b ≡ getD list (i * 3 + 1) 0 → c ≡ getD list (i * 3 + 2) 0 → Put at (decimal (i + 1)) l r₁ l₁
-    → Put r₁ (labelled space a) l₁ r₂ l₂ → Put r₂ (labelled space b) l₂ r₃ l₃ → Put r₃ (labelled space c) l₃ r₄ l₄ → Put r₄ lineEnd l₄ r l₅ → Put at (rowLine list i) l r l₅ × (r ≤ at + 128)
+    → Put r₁ (labelled space a) l₁ r₂ l₂ → Put r₂ (labelled space b) l₂ r₃ l₃ → Put r₃ (labelled space c) l₃ r₄ l₄ → Put r₄ lineEnd l₄ r l₅ → Put at (rowLine list i) l r l₅ × (r ≤ at + lineBytes)
 unfolding rowLine
 row-joined list i a b c {at} {r} {r₁} {r₂} {r₃} {r₄} {l} {l₁} {l₂} {l₃} {l₄} {l₅} x y z p q s t u = (
   subst (λ (k : List ℕ). Put at k l r l₅) (ap (λ (k : ℕ). lineOf i k b c) x ∙ ap (λ (k : ℕ). lineOf i (getD list (i * 3) 0) k c) y ∙ ap (lineOf i (getD list (i * 3) 0) (getD list (i * 3 + 1) 0)) z) (join p (join q (join s (join t u)))),
@@ -139,14 +139,14 @@ row-joined list i a b c {at} {r} {r₁} {r₂} {r₃} {r₄} {l} {l₁} {l₂} {
 module _ (list out₀ : List ℕ) (at count : ℕ) where
   pub record RowsPut (out : List ℕ) (next i : ℕ) : Type 0 where
     pub within : i ≤ count
-    pub most : next ≤ at + i * 128
+    pub most : next ≤ at + i * lineBytes
     pub put : Put at (each i (rowLine list)) out₀ next out
 
   pub rows-none : RowsPut out₀ at 0
   unfolding each puts
   rows-none = record { within = omega arith; most = omega arith; put = record { next = omega arith; bytes = refl } }
 
-  pub rows-more : {out out′ : List ℕ} {next next′ : ℕ} (i : ℕ) → RowsPut out next i → i < count → Put next (rowLine list i) out next′ out′ × (next′ ≤ next + 128) → RowsPut out′ next′ (i + 1)
+  pub rows-more : {out out′ : List ℕ} {next next′ : ℕ} (i : ℕ) → RowsPut out next i → i < count → Put next (rowLine list i) out next′ out′ × (next′ ≤ next + lineBytes) → RowsPut out′ next′ (i + 1)
   rows-more {out} {out′} {next} {next′} i w h p =
       record {
         within = omega arith;
@@ -154,5 +154,5 @@ module _ (list out₀ : List ℕ) (at count : ℕ) where
         put = subst (λ (x : List ℕ). Put at x out₀ next′ out′) (sym (each-more i (rowLine list))) (join (w .put) (p .0));
       }
 
-  pub rows-end : {out : List ℕ} {next : ℕ} (i : ℕ) → RowsPut out next i → count ≤ i → Put at (each count (rowLine list)) out₀ next out × (next ≤ at + count * 128)
+  pub rows-end : {out : List ℕ} {next : ℕ} (i : ℕ) → RowsPut out next i → count ≤ i → Put at (each count (rowLine list)) out₀ next out × (next ≤ at + count * lineBytes)
   rows-end {out} {next} i w h = let e : i ≡ count = omega (arith, w .within) in (subst (λ (k : ℕ). Put at (each k (rowLine list)) out₀ next out) e (w .put), omega (arith, w .most))

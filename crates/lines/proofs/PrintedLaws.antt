@@ -10,7 +10,7 @@ use lib.ListN.{length, getD, drop, take, length-append, List·getD-append}
 use lib.Seq.{length-take-le}
 use borrow.Author.Tests.{eq-eqb, ne-eqb, lt-ltb, le-ltb}
 use Rattle.task.specs.Loops.{over}
-use Rattle.task.specs.Sizes.{limits}
+use Rattle.task.specs.Sizes.{limits, mostValues}
 use Rattle.task.proofs.LoopLaws.{true-or-false}
 use Rattle.fields.specs.Bits.{fieldAt}
 use Rattle.fields.specs.Judging.{check, outside, refusal, each, _then_}
@@ -23,14 +23,14 @@ use Rattle.running.specs.declared.Answer.the-variants.{Plan, NoPlan, Open, Refu
 use Rattle.running.specs.Running.{roomChecks, runChecks, Runs}
 use Rattle.running.specs.Counts.{rowCount, rowValueCount, Counted}
 use Rattle.running.proofs.CountLaws as count
-use Rattle.lines.specs.Lines.{decimal, labelled, planText, noPlanText, openText, refusedText, stepsText, blocksText, space, lineEnd, firstLine, rowLine, rowLines, madeLines, ranLines, printed, Put}
+use Rattle.lines.specs.Lines.{lineBytes, outputBytes, decimal, labelled, planText, noPlanText, openText, refusedText, stepsText, blocksText, space, lineEnd, firstLine, rowLine, rowLines, madeLines, ranLines, printed, Put}
 use Rattle.lines.proofs.LineLaws.{join, same-long, decimal-short}
 
 pub label-short : (text : List ℕ) (n : ℕ) → length (labelled text n) ≤ length text + 20
 unfolding labelled
 label-short text n = omega (arith, length-append text (decimal n), decimal-short n)
 
-pub first-short : (a : Answer) → length (firstLine a) ≤ 128
+pub first-short : (a : Answer) → length (firstLine a) ≤ lineBytes
 unfolding firstLine
 first-short (Plan c n b) =
     omega (arith, length-append (labelled planText c) (labelled stepsText n ++ (labelled blocksText b ++ lineEnd)), length-append (labelled stepsText n) (labelled blocksText b ++ lineEnd), length-append (labelled blocksText b) lineEnd, label-short planText c, label-short stepsText n, label-short blocksText b)
@@ -51,23 +51,23 @@ front-rows xs ys k h =
     ∙ ap (λ (x : ℕ). lineFrom i (getD xs (i * 3) 0) x (getD (xs ++ ys) (i * 3 + 2) 0)) (List·getD-append xs ys 0 (i * 3 + 1) (omega arith))
     ∙ ap (lineFrom i (getD xs (i * 3) 0) (getD xs (i * 3 + 1) 0)) (List·getD-append xs ys 0 (i * 3 + 2) (omega arith)))
 
-module _ (s : List ℕ) (room : ℕ) (c r : List ℕ) (h : (length c ≡ 765) × (length r ≡ 765)) where
+module _ (s : List ℕ) (room : ℕ) (c r : List ℕ) (h : (length c ≡ mostValues) × (length r ≡ mostValues)) where
   abbrev N : ℕ
   N = refusal (sheetChecks s ++ (check 7 (outside 1 (limits .blocks) room) ∷ []))
 
-  -- lists of 255 places are enough for every room
+  -- lists for the most cuts and rows that there can be are enough for every room
   room-same : refusal (check 7 (outside 1 (limits .blocks) room) ∷ []) ≡ refusal (roomChecks room c r)
   unfolding roomChecks
-  room-same = ⊎-elim bad good (true-or-false (outside 1 256 room))
+  room-same = ⊎-elim bad good (true-or-false (outside 1 (limits .blocks) room))
     where
-      bad : outside 1 256 room ≡ true → refusal (check 7 (outside 1 256 room) ∷ []) ≡ refusal (roomChecks room c r)
-      bad q = sym (applies 7 (outside 1 256 room) _ q (λ z. omega arith)) ∙ applies 7 (outside 1 256 room) _ q (λ z. omega arith)
+      bad : outside 1 (limits .blocks) room ≡ true → refusal (check 7 (outside 1 (limits .blocks) room) ∷ []) ≡ refusal (roomChecks room c r)
+      bad q = sym (applies 7 (outside 1 (limits .blocks) room) _ q (λ z. omega arith)) ∙ applies 7 (outside 1 (limits .blocks) room) _ q (λ z. omega arith)
 
-      good : outside 1 256 room ≡ false → refusal (check 7 (outside 1 256 room) ∷ []) ≡ refusal (roomChecks room c r)
+      good : outside 1 (limits .blocks) room ≡ false → refusal (check 7 (outside 1 (limits .blocks) room) ∷ []) ≡ refusal (roomChecks room c r)
       good q =
-          let i = inside-means 1 256 room q in
-          sym (passes 7 (outside 1 256 room) [] q no-checks)
-          ∙ passes 7 (outside 1 256 room) _ q (passes 8 (ltb (length c) ((room - 1) * 3)) _ (le-ltb (length c) ((room - 1) * 3) (omega (arith, h .0, i .1))) (passes 8 (ltb (length r) ((room - 1) * 3)) [] (le-ltb (length r) ((room - 1) * 3) (omega (arith, h .1, i .1))) no-checks))
+          let i = inside-means 1 (limits .blocks) room q in
+          sym (passes 7 (outside 1 (limits .blocks) room) [] q no-checks)
+          ∙ passes 7 (outside 1 (limits .blocks) room) _ q (passes 8 (ltb (length c) ((room - 1) * 3)) _ (le-ltb (length c) ((room - 1) * 3) (omega (arith, h .0, i .1))) (passes 8 (ltb (length r) ((room - 1) * 3)) [] (le-ltb (length r) ((room - 1) * 3) (omega (arith, h .1, i .1))) no-checks))
 
   checks-same : N ≡ refusal (runChecks s room c r)
   unfolding runChecks
@@ -77,7 +77,7 @@ module _ (s : List ℕ) (room : ℕ) (c r : List ℕ) (h : (length c ≡ 765) ×
     pub counted : Counted a
     counted = count.known s room c r e .counted
 
-    pub rows-go : {k at : ℕ} {l l′ : List ℕ} {v : ℕ} → v ≡ rowValueCount a → k ≡ v / 3 → 65536 ≤ length l → Put 0 (firstLine a) l at l′ → (k < 256) × (k * 3 ≤ length r′) × (at + k * 128 ≤ length l′)
+    pub rows-go : {k at : ℕ} {l l′ : List ℕ} {v : ℕ} → v ≡ rowValueCount a → k ≡ v / 3 → outputBytes ≤ length l → Put 0 (firstLine a) l at l′ → (k < limits .blocks) × (k * 3 ≤ length r′) × (at + k * lineBytes ≤ length l′)
     rows-go v q m p =
         let w = count.known s room c r e in
         let f = first-short a in
@@ -100,7 +100,7 @@ module _ (s : List ℕ) (room : ℕ) (c r : List ℕ) (h : (length c ≡ 765) ×
         let z : k ≡ 0 = q ∙ ap (λ (u : Answer). rowValueCount u / 3) (b .answer) in
         ap₂ (λ (u : Answer) (j : ℕ). firstLine u ++ each j (rowLine r′)) (b .answer) z ∙ append-nil _ ∙ ap (λ (j : ℕ). firstLine (Refused j)) (sym checks-same) ∙ sym (simp (ne-eqb N 0 (λ v. b .bad (sym checks-same ∙ v))))
 
-    pub lines-put : {k at at′ : ℕ} {l l′ l″ : List ℕ} {v : ℕ} → v ≡ rowValueCount a → k ≡ v / 3 → Put 0 (firstLine a) l at l′ → Put at (each k (rowLine r′)) l′ at′ l″ × (at′ ≤ at + k * 128) → Put 0 (ranLines s room) l at′ l″ × (at′ ≤ 65536)
+    pub lines-put : {k at at′ : ℕ} {l l′ l″ : List ℕ} {v : ℕ} → v ≡ rowValueCount a → k ≡ v / 3 → Put 0 (firstLine a) l at l′ → Put at (each k (rowLine r′)) l′ at′ l″ × (at′ ≤ at + k * lineBytes) → Put 0 (ranLines s room) l at′ l″ × (at′ ≤ outputBytes)
     lines-put {k} {at} {at′} {l} {l′} {l″} v q p w =
         let g = count.known s room c r e in
         let f = first-short a in
@@ -109,14 +109,14 @@ module _ (s : List ℕ) (room : ℕ) (c r : List ℕ) (h : (length c ≡ 765) ×
         (subst (λ (x : List ℕ). Put 0 x l at′ l″) same (join p (w .0)), omega (arith, w .1, g .rows-fit, h .1, p .next, f))
 
 -- ---- the input
-module _ (input : List ℕ) {l l′ : List ℕ} {at : ℕ} (room : 65536 ≤ length l) where
-  counts : {xs : List ℕ} → Put 0 xs l at l′ → at ≤ 65536 → Counts at l′
+module _ (input : List ℕ) {l l′ : List ℕ} {at : ℕ} (room : outputBytes ≤ length l) where
+  counts : {xs : List ℕ} → Put 0 xs l at l′ → at ≤ outputBytes → Counts at l′
   counts p h = let m : at ≤ length l′ = omega (arith, same-long p) in (m, sym (length-take-le at l′ m))
 
   pub printed-short : length input < 2 → Put 0 (firstLine (Refused 1)) l at l′ → Put 0 (printed input) l at l′ × Counts at l′
   unfolding printed
   printed-short h p = (simp (lt-ltb (length input) 2 h) p, counts p (omega (arith, p .next, first-short (Refused 1))))
 
-  pub printed-run : 2 ≤ length input → {n : ℕ} → n ≡ fieldAt input 0 16 → Put 0 (ranLines (take (length input - 2) (drop 2 input)) n) l at l′ × (at ≤ 65536) → Put 0 (printed input) l at l′ × Counts at l′
+  pub printed-run : 2 ≤ length input → {n : ℕ} → n ≡ fieldAt input 0 16 → Put 0 (ranLines (take (length input - 2) (drop 2 input)) n) l at l′ × (at ≤ outputBytes) → Put 0 (printed input) l at l′ × Counts at l′
   unfolding printed
   printed-run h {n} e p = (simp (le-ltb (length input) 2 h) (subst (λ (x : List ℕ). Put 0 x l at l′) (ap₂ ranLines (rest-all input 2) e) (p .0)), counts (p .0) (p .1))

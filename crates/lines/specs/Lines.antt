@@ -28,6 +28,17 @@ width n = Option·getD (first 20 (λ k. when (ltb n (10 ^ (k + 1))) (k + 1))) 20
 unfoldable pub decimal : ℕ → List ℕ
 decimal n = digits 10 (width n) n
 
+-- no line has more bytes, and no change sheet more than the program's buffer
+abbrev pub lineBytes : ℕ
+lineBytes = 128
+
+abbrev pub outputBytes : ℕ
+outputBytes = 65536
+
+-- of its input the program reads no more bytes
+abbrev pub inputBytes : ℕ
+inputBytes = 4096
+
 -- the fixed texts
 abbrev pub planText : List ℕ
 planText = 112 ∷ 108 ∷ 97 ∷ 110 ∷ 32 ∷ []

@@ -2,10 +2,11 @@
 ghost use mathlib.Core.Path.{_≡_};
 ghost use Prim.Native.Nat.{_+_, _*_, _≤_, _<_};
 ghost use lib.ListN.{length};
+ghost use Rattle.task.specs.Sizes.{limits, mostValues};
 ghost use Rattle.running.specs.Counts.{Counted};
 ghost use Rattle.io.specs.Counts.{Counts};
 ghost use Rattle.fields.specs.Judging.{each};
-ghost use Rattle.lines.specs.Lines.{decimal, labelled, firstLine, rowLine, Put, ranLines, Prints};
+ghost use Rattle.lines.specs.Lines.{lineBytes, outputBytes, decimal, labelled, firstLine, rowLine, Put, ranLines, Prints};
 use fields::field::field;
 use planner::Answer;
 use planner::run;
@@ -45,7 +46,7 @@ fn put_labelled(text: &[u8], n: u64, out: &mut [u8], at: usize) -> usize
 
 // The first line: kind, cost, steps, blocks.
 pub fn put_first_line(answer: Answer, out: &mut [u8]) -> usize
-    requires { ⌜ Counted answer × (128 ≤ length (now out)) ⌝ }
+    requires { ⌜ Counted answer × (lineBytes ≤ length (now out)) ⌝ }
     ensures { λ r. ⌜ Put 0 (firstLine answer) (now (out .entry)) r (now (out .exit)) ⌝ }
 {
     match answer {
@@ -83,8 +84,8 @@ fn wide(v: u32) -> u64
 
 // Row i of a list: its number counted from 1, step, tenths, tenths left.
 fn put_row(list: &[u32], i: usize, out: &mut [u8], at: usize) -> usize
-    requires { ⌜ (i < 256) × (i * 3 + 3 ≤ length (now list)) × (at + 128 ≤ length (now out)) ⌝ }
-    ensures { λ r. ⌜ Put at (rowLine (now (list .entry)) i) (now (out .entry)) r (now (out .exit)) × (r ≤ at + 128) ⌝ }
+    requires { ⌜ (i < limits .blocks) × (i * 3 + 3 ≤ length (now list)) × (at + lineBytes ≤ length (now out)) ⌝ }
+    ensures { λ r. ⌜ Put at (rowLine (now (list .entry)) i) (now (out .entry)) r (now (out .exit)) × (r ≤ at + lineBytes) ⌝ }
 {
     let place = i * 3;
     let a = put_number(i as u64 + 1, out, at);
@@ -96,8 +97,8 @@ fn put_row(list: &[u32], i: usize, out: &mut [u8], at: usize) -> usize
 
 // The rows of a list, a line for each.
 pub fn put_rows(list: &[u32], count: usize, out: &mut [u8], at: usize) -> usize
-    requires { ⌜ (count < 256) × (count * 3 ≤ length (now list)) × (at + count * 128 ≤ length (now out)) ⌝ }
-    ensures { λ r. ⌜ Put at (each count (rowLine (now (list .entry)))) (now (out .entry)) r (now (out .exit)) × (r ≤ at + count * 128) ⌝ }
+    requires { ⌜ (count < limits .blocks) × (count * 3 ≤ length (now list)) × (at + count * lineBytes ≤ length (now out)) ⌝ }
+    ensures { λ r. ⌜ Put at (each count (rowLine (now (list .entry)))) (now (out .entry)) r (now (out .exit)) × (r ≤ at + count * lineBytes) ⌝ }
 {
     let mut next = at;
     let mut i: usize = 0;
@@ -110,8 +111,8 @@ pub fn put_rows(list: &[u32], count: usize, out: &mut [u8], at: usize) -> usize
 
 // The lines of a run, with two lists to work in.
 fn put_run(sheet: &[u8], room: u32, cuts: &mut [u32], rows: &mut [u32], out: &mut [u8]) -> usize
-    requires { ⌜ (length (now cuts) ≡ 765) × (length (now rows) ≡ 765) × (65536 ≤ length (now out)) ⌝ }
-    ensures { λ r. ⌜ Put 0 (ranLines (now (sheet .entry)) room) (now (out .entry)) r (now (out .exit)) × (r ≤ 65536) ⌝ }
+    requires { ⌜ (length (now cuts) ≡ mostValues) × (length (now rows) ≡ mostValues) × (outputBytes ≤ length (now out)) ⌝ }
+    ensures { λ r. ⌜ Put 0 (ranLines (now (sheet .entry)) room) (now (out .entry)) r (now (out .exit)) × (r ≤ outputBytes) ⌝ }
 {
     let answer = run(sheet, room, cuts, rows);
     let next = put_first_line(answer, out);
@@ -121,7 +122,7 @@ fn put_run(sheet: &[u8], room: u32, cuts: &mut [u32], rows: &mut [u32], out: &mu
 
 // What the program prints for an input: the room in 16 bits, then a model sheet. It returns how many bytes were put.
 pub fn put_printed(input: &[u8], out: &mut [u8]) -> usize
-    requires { ⌜ 65536 ≤ length (now out) ⌝ }
+    requires { ⌜ outputBytes ≤ length (now out) ⌝ }
     ensures { λ r. ⌜ Prints (now (input .entry)) (now (out .entry)) r (now (out .exit)) × Counts r (now (out .exit)) ⌝ }
 {
     if input.len() < 2 {

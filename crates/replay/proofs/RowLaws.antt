@@ -11,7 +11,7 @@ use lib.ListN.{length, getD, List·getD-append}
 use lib.Signed.{_≤ℤ_}
 use borrow.Author.Tests.{not-true, not-false}
 use Rattle.task.specs.Loops.{all, over}
-use Rattle.task.specs.Sizes.{limits}
+use Rattle.task.specs.Sizes.{limits, mostCost, mostTenths}
 use Rattle.task.specs.Task.{Task, Tenths, Accepted}
 use Rattle.task.proofs.LoopLaws.{and-left, and-right, and-both, true-or-false, all-at, all-fails, all-false}
 use Rattle.fields.proofs.PlaceLaws.{each-length, each-item}
@@ -26,7 +26,7 @@ use Rattle.replay.proofs.LogLaws.{before-state, good-all, good-row}
 
 -- the largest distance
 abbrev pub largest : Tenths
-largest = (limits .blocks - 1) * 65535
+largest = mostTenths
 
 -- ---- estimates with and without a way
 
@@ -179,7 +179,7 @@ module _ (t : Task) (v : Accepted t) (cs : List Cut) (ok : accepted t cs ≡ tru
       pub won-high : (pos (tenthsAt t cs log i) -ℤ pos (tenthsAt t cs log (suc i))) ≤ℤ pos largest
       won-high = highest (tenthsAt t cs log i) (tenthsAt t cs log (suc i)) largest most-before
 
-      pub detour-most : paid t log i + tenthsAt t cs log (suc i) - tenthsAt t cs log i ≤ 65535 + largest
+      pub detour-most : paid t log i + tenthsAt t cs log (suc i) - tenthsAt t cs log i ≤ mostCost + largest
       unfolding paid
       detour-most = omega (arith, v .tenths (stepAt log i), most-after)
 

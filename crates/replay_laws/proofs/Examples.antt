@@ -1,11 +1,12 @@
 -- Worked replays on bytes, computed: the log of 02 on the small re-thread after the four cuts of room 5, its plan, a log that loses its way, and replays that
 -- are refused.
-use Prim.Native.Nat.{ℕ}
+use Prim.Native.Nat.{ℕ, _+_}
 use mathlib.Core.Path.{_≡_, refl}
 use mathlib.Core.List.{List, [], _∷_, _++_, map}
 use lib.IntN.{ℤ, pos, negsuc}
 use lib.ListN.{replicate}
 use Rattle.task.specs.Loops as loops
+use Rattle.task.specs.Sizes.{limits}
 use Rattle.task.specs.Task as task
 use Rattle.task.specs.Tables.{marked}
 use Rattle.fields.specs.Bits as bits
@@ -64,7 +65,7 @@ posed =
     ∷ pose rethread cutPart (0 ∷ 0 ∷ 300 ∷ []) []
     -- both sheets come before the log, its length before its rows, and those before the places
     ∷ pose rethread badPart (300 ∷ []) []
-    ∷ pose rethread cutPart (replicate 256 0) []
+    ∷ pose rethread cutPart (replicate (limits .log + 1) 0) []
     ∷ pose rethread cutPart (0 ∷ 1 ∷ 2 ∷ []) (places 8)
     ∷ []
 

@@ -12,7 +12,7 @@ use lib.Seq.{length-take-le}
 use borrow.Author.Tests.{eq-eqb, ne-eqb, ltb-true}
 use Rattle.task.specs.declared.Step.{Step}
 use Rattle.task.specs.Loops.{over}
-use Rattle.task.specs.Sizes.{limits, mostSteps}
+use Rattle.task.specs.Sizes.{limits, mostSteps, mostValues}
 use Rattle.task.specs.Task.{Task, State, step, stepCount, canTake, taken, start, reaches, IsPlan}
 use Rattle.task.proofs.LoopLaws.{and-left, and-right}
 use Rattle.fields.specs.Judging.{refusal}
@@ -92,7 +92,7 @@ module _ (s : List ℕ) (room : ℕ) (cuts : List ℕ) (lent : List Row) (list :
         let right = run-right t ok room (count.fits s room cuts list e w .some) .right in
         ap (λ (x : List ℕ). filling lent x (rowCount a) .rows) z
         ∙ ap (λ (n : ℕ). filling lent (xs ++ ys) n .rows) k
-        ∙ listed-put lent planned ys nobody (omega (arith, listed-long planned, usable-is 255 (length lent) .there))
+        ∙ listed-put lent planned ys nobody (omega (arith, listed-long planned, usable-is mostSteps (length lent) .there))
         (λ i h. omega (arith, rows-known t room (o .made) (o .answer) right i h, ok .steps))
 
     pub row-told : Told
@@ -109,9 +109,9 @@ module _ (s : List ℕ) (room : ℕ) (cuts : List ℕ) (lent : List Row) (list :
             simp (ne-eqb (refusal (rowChecks s room cuts lent)) 0 (λ q. b .bad (sym checks-same ∙ q))) (rw (y, b .same-cuts, z) refl)
 
 -- ---- the same with the first values of a list to work in
-pub told-in : (s : List ℕ) (room places : ℕ) (cuts values : List ℕ) → length values ≡ 765 → {m : ℕ} → m ≡ usable 255 places → {a : Answer} {c v : List ℕ}
+pub told-in : (s : List ℕ) (room places : ℕ) (cuts values : List ℕ) → length values ≡ mostValues → {m : ℕ} → m ≡ usable mostSteps places → {a : Answer} {c v : List ℕ}
     → running.Runs s room cuts (take (m * 3) values) a c v → (lent : List Row) → length lent ≡ places
     → RowRuns s room cuts lent a c (filling lent (v ++ drop (m * 3) values) (rowCount a) .rows)
 told-in s room places cuts values h {m} p e lent q =
-    let long = length-take-le (m * 3) values (omega (arith, at-most 255 places p)) ∙ ap (λ (x : ℕ). x * 3) (p ∙ ap (usable 255) (sym q)) in
+    let long = length-take-le (m * 3) values (omega (arith, at-most mostSteps places p)) ∙ ap (λ (x : ℕ). x * 3) (p ∙ ap (usable mostSteps) (sym q)) in
     row-told s room cuts lent (take (m * 3) values) long e (drop (m * 3) values)

@@ -3,7 +3,7 @@ ghost use mathlib.Core.Path.{_≡_};
 ghost use Prim.Native.Nat.{_+_, _-_, _*_, _≤_, _<_};
 ghost use mathlib.Core.List.{List};
 ghost use lib.ListN.{length, getD};
-ghost use Rattle.task.specs.Sizes.{limits};
+ghost use Rattle.task.specs.Sizes.{limits, mostValues};
 ghost use Rattle.run.specs.declared.Row.{Row};
 ghost use Rattle.running.specs.Counts.{rowCount};
 ghost use Rattle.rows.specs.Rows.{rowIn, stepsNamed, fitting, filling, PutsRows, RowRuns};
@@ -91,7 +91,7 @@ fn row_count(answer: Answer) -> usize
 
 // A run for so many places of rows, with a list for their values: whoever puts the rows from it has the run.
 fn run_for(sheet: &[u8], room: u32, places: usize, cuts: &mut [u32], values: &mut [u32]) -> Answer
-    requires { ⌜ length (now values) ≡ (limits .blocks - 1) * 3 ⌝ }
+    requires { ⌜ length (now values) ≡ mostValues ⌝ }
     ensures { λ r. ⌜ ((rows : List Row) → length rows ≡ places
         → RowRuns (now (sheet .entry)) room (now (cuts .entry)) rows r (now (cuts .exit)) (filling rows (now (values .exit)) (rowCount r) .rows)) ⌝ }
 {

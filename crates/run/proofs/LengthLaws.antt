@@ -10,6 +10,7 @@ use Rattle.task.specs.declared.Step.{Step}
 use Rattle.task.specs.declared.Block.{Block}
 use Rattle.task.specs.Task.{Task, Accepted, block, start}
 use Rattle.task.proofs.TaskLaws.{start-state}
+use Rattle.task.specs.Sizes.{mostCost}
 use Rattle.blocks.specs.declared.Cut.{Cut}
 use Rattle.blocks.specs.Blocks.{Blocks, accepted, blocksOf, blockOf}
 use Rattle.blocks.proofs.CutLaws.{accepted-parts, blocks-length}
@@ -55,7 +56,7 @@ module _ (t : Task) (v : Accepted t) (cs : List Cut) (ok : accepted t cs ≡ tru
   from-short a h (some d) e =
       let l = distances t (blocksOf t cs) in
       let hs : List Hop = trace t (blocksOf t cs) l (d .steps) a in
-      let b = rounds-bound t (blocksOf t cs) 65535 (v .tenths) (length (blocksOf t cs)) a h e in
+      let b = rounds-bound t (blocksOf t cs) mostCost (v .tenths) (length (blocksOf t cs)) a h e in
       omega (arith, b .0, trace-short t (blocksOf t cs) l (d .steps) a, walk-short d hs (walk t (blocksOf t cs) (start t) a hs))
 
   look-short : planSteps (look t (blocksOf t cs)) < length (blocksOf t cs)

@@ -14,6 +14,7 @@ use Rattle.task.specs.Loops.{over}
 use Rattle.task.specs.Task.{Task, State, Tenths, Accepted, stateCount, isState, start, costs, IsPlan}
 use Rattle.task.proofs.LoopLaws.{and-left, and-right, and-both}
 use Rattle.task.proofs.TaskLaws.{start-state}
+use Rattle.task.specs.Sizes.{limits}
 use Rattle.blocks.specs.declared.Cut.{Cut}
 use Rattle.blocks.specs.Blocks.{Blocks, whole, cutBlock, cutOk, cutsOk, accepted}
 use Rattle.blocks.proofs.FollowLaws.{accepted-less}
@@ -94,7 +95,7 @@ module _ (s : List ℕ) (room : ℕ) (cuts rows₀ : List ℕ) where
   pub record Ran (a : Answer) (cuts′ rows′ : List ℕ) : Type 0 where
     pub model : Accepted t
     pub some : 1 ≤ room
-    pub few : room ≤ 256
+    pub few : room ≤ limits .blocks
     pub made : List Cut
     pub listed-cuts : cuts′ ≡ over (listed cutPlace made) cuts
     pub ok : accepted t made ≡ true

@@ -48,7 +48,7 @@ module _ (t : Task) (blocks : ℕ) where
   rows-told noPlan = refl
   rows-told («open» e) = refl
 
-  counted-told : (a : run.Answer) → 1 ≤ blocks → blocks ≤ 256 → ((ss : List Step) → a ≡ plan ss → length ss < 256) → Counted (told t blocks a)
+  counted-told : (a : run.Answer) → 1 ≤ blocks → blocks ≤ limits .blocks → ((ss : List Step) → a ≡ plan ss → length ss < limits .blocks) → Counted (told t blocks a)
   unfolding told Counted
   counted-told (plan ss) h g short = (h, g, let q = short ss refl in omega arith)
   counted-told noPlan h g short = (h, g)

@@ -1,5 +1,5 @@
 -- Laws of values put as bytes.
-use Prim.Native.Nat.{ℕ, _+_, _*_, _/_, _%_, _≤_}
+use Prim.Native.Nat.{ℕ, _+_, _*_, _/_, _%_, _^_, _≤_}
 use native.Mathlib.Omega.{arith}
 use mathlib.Core.Path.{_≡_, refl, sym, ap, _∙_}
 use mathlib.Core.List.{List, _++_, append-assoc, map, map-append}
@@ -10,9 +10,10 @@ use Rattle.fields.specs.Judging.{each}
 use Rattle.fields.specs.Places.{puts}
 use Rattle.fields.proofs.JudgingLaws.{each-ext}
 use Rattle.fields.proofs.PlaceLaws.{each-length, puts-next, puts-over}
-use Rattle.values.specs.Values.{valueBytes, bytesAt, bytesOf, twos, signedBytes}
+use Rattle.values.specs.Values.{byte, valueBytes, bytesAt, bytesOf, twos, signedBytes}
 
-pub put-four : (l : List ℕ) (at v : ℕ) → set (set (set (set l at (v / 16777216 % 256)) (at + 1) (v / 65536 % 256)) (at + 2) (v / 256 % 256)) (at + 3) (v % 256) ≡ puts at (valueBytes v) l
+pub put-four : (l : List ℕ) (at v : ℕ)
+    → set (set (set (set l at (v / 2 ^ 24 % byte)) (at + 1) (v / 2 ^ 16 % byte)) (at + 2) (v / 2 ^ 8 % byte)) (at + 3) (v % byte) ≡ puts at (valueBytes v) l
 unfolding puts valueBytes
 put-four l at v =
     let e : at + 2 ≡ at + 1 + 1 = omega arith in

@@ -4,15 +4,20 @@ use mathlib.Core.List.{List, [], _∷_, map}
 use lib.IntN.{ℤ, pos, negsuc}
 use lib.ListN.{length, getD}
 use Rattle.task.specs.Loops.{tab}
+use Rattle.task.specs.Sizes.{limits}
 use Rattle.fields.specs.Judging.{each}
 
--- no list has as many values
+-- no list has as many values: a cut and a row are three, and there are fewer of them than blocks
 abbrev pub tooMany : ℕ
-tooMany = 1024
+tooMany = limits .blocks * 4
+
+-- how many numbers a byte has
+abbrev pub byte : ℕ
+byte = 2 ^ 8
 
 -- a value is four bytes, most significant first
 unfoldable pub valueBytes : ℕ → List ℕ
-valueBytes v = v / 2 ^ 24 % 256 ∷ v / 2 ^ 16 % 256 ∷ v / 2 ^ 8 % 256 ∷ v % 256 ∷ []
+valueBytes v = v / 2 ^ 24 % byte ∷ v / 2 ^ 16 % byte ∷ v / 2 ^ 8 % byte ∷ v % byte ∷ []
 
 -- the bytes of value i of a list
 unfoldable pub bytesAt : List ℕ → ℕ → List ℕ

@@ -49,6 +49,7 @@ use Rattle.run.proofs.Row as T
 use Rattle.running.specs.declared.Answer.{Answer}
 use Rattle.running.proofs.Answer as E
 use Rattle.running.proofs.Answer.Laws as E′
+use Rattle.task.specs.Sizes.{mostValues}
 use Rattle.running.specs.Counts.{rowCount}
 use Rattle.rows.specs.Rows.{filling, outcome, RowRuns, PutsRows}
 use Rattle.rows.proofs.LentLaws.{arrayTy, MutOf, ShrOf, Elems, lend-mut, lend-shr, elems-room}
@@ -77,13 +78,13 @@ stayed = (stay-none-slice (0 ∷ []) tt (plain (λ _. u8)) yes, (stay-none (λ _
 
 -- the list of values at first
 abbrev zeros : List ℕ
-zeros = replicate 765 0
+zeros = replicate mostValues 0
 
 -- its machine value
 abbrev zero-val : Val
-zero-val = arrayVal (replicate 765 (vint w32 0))
+zero-val = arrayVal (replicate mostValues (vint w32 0))
 
-few : Room u32 765
+few : Room u32 mostValues
 few = (lit< tt, lit< tt)
 
 module _ {M : Type 1} (𝓤 : URA M) (H : Heap 𝓤) (A : Atoms 𝓤) (at-mem : Memory → SProp 𝓤) (run : Routine → Fun 𝓤) where
@@ -161,7 +162,7 @@ module _ {M : Type 1} (𝓤 : URA M) (H : Heap 𝓤) (A : Atoms 𝓤) (W : Given
   module _ (b : ℕ) where
     -- the machine value of the local array as a slice
     abbrev vv : Val
-    vv = sliceVal (b, 0) 765
+    vv = sliceVal (b, 0) mostValues
 
     -- ---- the call of `run_for`, with the local array lent for α
     abbrev run-lfts : ℕ → Lfts 3
@@ -174,9 +175,9 @@ module _ {M : Type 1} (𝓤 : URA M) (H : Heap 𝓤) (A : Atoms 𝓤) (W : Given
     to-run α γ = ((run-lfts α, (q₀, (q₁, (fullShare, tt))), tt, run-args γ, (sv ∷ [], (vint w32 room ∷ [], (vint w64 (length (r .now)) ∷ [], (cv ∷ [], (vv ∷ [], tt)))))), tt)
 
     asked-run : (α : ℕ) (γ : GName)
-        → ent 𝓤 (⋆ 𝓤 H A (‵ (flft κ₀ q₀) ∷ ‵ (flft κ₁ q₁) ∷ ‵ (flft (α ∷ []) fullShare) ∷ ‵ Sheet ∷ ‵ Cuts ∷ ‵ (MutOf 𝓤 H A W 765 b (α ∷ []) zeros 765 γ) ∷ [])) (RunFor 𝓤 H A at-mem run .pre (to-run α γ))
+        → ent 𝓤 (⋆ 𝓤 H A (‵ (flft κ₀ q₀) ∷ ‵ (flft κ₁ q₁) ∷ ‵ (flft (α ∷ []) fullShare) ∷ ‵ Sheet ∷ ‵ Cuts ∷ ‵ (MutOf 𝓤 H A W mostValues b (α ∷ []) zeros mostValues γ) ∷ [])) (RunFor 𝓤 H A at-mem run .pre (to-run α γ))
     asked-run α γ =
-        qed W (‵ (flft κ₀ q₀) ∷ ‵ (flft κ₁ q₁) ∷ ‵ (flft (α ∷ []) fullShare) ∷ ‵ Sheet ∷ ‵ Cuts ∷ ‵ (MutOf 𝓤 H A W 765 b (α ∷ []) zeros 765 γ) ∷ []) ∵ says ! (length-replicate {A = ℕ} 765 0) $
+        qed W (‵ (flft κ₀ q₀) ∷ ‵ (flft κ₁ q₁) ∷ ‵ (flft (α ∷ []) fullShare) ∷ ‵ Sheet ∷ ‵ Cuts ∷ ‵ (MutOf 𝓤 H A W mostValues b (α ∷ []) zeros mostValues γ) ∷ []) ∵ says ! (length-replicate {A = ℕ} mostValues 0) $
         nothing ! $ move ! (1 ∷ 2 ∷ 3 ∷ 0 ∷ []) $ group ! 4 $ frame ! $
         nothing ! $ move ! (3 ∷ 0 ∷ []) $ fjoin ! $ move ! (2 ∷ 0 ∷ []) $ fjoin ! $ owned ! usize (Is usize) (uint-makes 𝓤 H A W w64) (length (r .now)) _ (refl, gr .0) $ fjoin ! $
         owned ! u32 (Is u32) (uint-makes 𝓤 H A W w32) room _ (refl, gm) $ fjoin ! $ move ! (1 ∷ 0 ∷ []) $ fjoin ! $ done !
@@ -199,9 +200,9 @@ module _ {M : Type 1} (𝓤 : URA M) (H : Heap 𝓤) (A : Atoms 𝓤) (W : Given
     to-put β δ v n = ((put-lfts β, (q₂, (fullShare, tt)), tt, put-args δ v n, (rv ∷ [], (vv ∷ [], (vint w64 n ∷ [], tt)))), tt)
 
     asked-put : (β : ℕ) (δ : GName) (v : List ℕ) (n : ℕ) → n < 2 ^ 64
-        → ent 𝓤 (⋆ 𝓤 H A (‵ (flft κ₂ q₂) ∷ ‵ (flft (β ∷ []) fullShare) ∷ ‵ Rows ∷ ‵ (ShrOf 𝓤 H A W 765 b (β ∷ []) v 765 δ) ∷ [])) (PutRows 𝓤 H A at-mem run .pre (to-put β δ v n))
+        → ent 𝓤 (⋆ 𝓤 H A (‵ (flft κ₂ q₂) ∷ ‵ (flft (β ∷ []) fullShare) ∷ ‵ Rows ∷ ‵ (ShrOf 𝓤 H A W mostValues b (β ∷ []) v mostValues δ) ∷ [])) (PutRows 𝓤 H A at-mem run .pre (to-put β δ v n))
     asked-put β δ v n gn =
-        qed W (‵ (flft κ₂ q₂) ∷ ‵ (flft (β ∷ []) fullShare) ∷ ‵ Rows ∷ ‵ (ShrOf 𝓤 H A W 765 b (β ∷ []) v 765 δ) ∷ []) ∵
+        qed W (‵ (flft κ₂ q₂) ∷ ‵ (flft (β ∷ []) fullShare) ∷ ‵ Rows ∷ ‵ (ShrOf 𝓤 H A W mostValues b (β ∷ []) v mostValues δ) ∷ []) ∵
         nothing ! $ owned ! usize (Is usize) (uint-makes 𝓤 H A W w64) n _ (refl, gn) $ fjoin ! $ move ! (4 ∷ 0 ∷ []) $ fjoin ! $ move ! (3 ∷ 0 ∷ []) $ fjoin ! $
         nothing ! $ move ! (2 ∷ 3 ∷ 0 ∷ []) $ group ! 3 $ join ! $ frame ! $ done !
 
@@ -216,9 +217,9 @@ module _ {M : Type 1} (𝓤 : URA M) (H : Heap 𝓤) (A : Atoms 𝓤) (W : Given
       alloc1 ! (λ l₀. alloc1 ! (λ l₁. alloc1 ! (λ l₂. alloc1 ! (λ l₃. alloc1 ! (λ l₄. alloc1 ! (λ l₅. alloc1 ! (λ l₆. alloc1 ! (λ l₇. alloc1 ! (λ l₈. alloc1 ! (λ l₉. alloc1 ! (λ l₁₀. alloc1 ! (λ l₁₁. alloc1 ! (λ l₁₂. alloc1 ! (λ l₁₃. alloc1 ! (λ l₁₄. alloc1 ! (λ l₁₅. alloc1 ! (λ l₁₆. alloc0 ! $ params1 ! $
       pass1 ! (init ! 30 refl (tt, (tt, (record { fits = gs .0 }, tt)))) $ pass1 ! (init ! 28 refl (tt, record { fits = gm })) $ pass1 ! (init ! 26 refl (tt, (tt, (record { fits = gc .0 }, tt)))) $ pass1 ! (init ! 24 refl (tt, (tt, (record { fits = gr .0 }, tt)))) $ pass0 ! $
       -- the array of zeros is made
-      owned ! u32 (Is u32) (uint-makes 𝓤 H A W w32) 0 (vint w32 0 ∷ []) (refl, lit< tt) $ use1 W (‵ (Array u32 765 .own zeros (zero-val ∷ []))) (array-repeat 𝓤 H A W u32 (uint-copy 𝓤 H A W w32) 765 0 (vint w32 0)) $
-      peeks ! (Array u32 765) (Is (Array u32 765)) (shows 𝓤 H A (Array u32 765)) zeros (zero-val ∷ []) (λ iz.
-      assigns ! (rep ! 765 (lit ! tt)) (from ! (stop !)) (init ! 23 refl (array-lawful 𝓤 H A W u32 (uint-lawful 𝓤 H A W w32) 765 .typed zeros (zero-val ∷ []) iz .0)) $
+      owned ! u32 (Is u32) (uint-makes 𝓤 H A W w32) 0 (vint w32 0 ∷ []) (refl, lit< tt) $ use1 W (‵ (Array u32 mostValues .own zeros (zero-val ∷ []))) (array-repeat 𝓤 H A W u32 (uint-copy 𝓤 H A W w32) mostValues 0 (vint w32 0)) $
+      peeks ! (Array u32 mostValues) (Is (Array u32 mostValues)) (shows 𝓤 H A (Array u32 mostValues)) zeros (zero-val ∷ []) (λ iz.
+      assigns ! (rep ! mostValues (lit ! tt)) (from ! (stop !)) (init ! 23 refl (array-lawful 𝓤 H A W u32 (uint-lawful 𝓤 H A W w32) mostValues .typed zeros (zero-val ∷ []) iz .0)) $
       -- the slices that `run_for` is passed
       assigns ! (of-opd ! (load ! (from ! (fld ! refl (stop !))) (look-in ! 25 (sub ! 1 refl (whole !))))) (from ! (stop !)) (init ! 19 refl (tt, record { fits = gr .0 })) $
       assigns ! (addr ! (from ! (fld ! refl (hop ! (look-in ! 27 (sub ! 0 refl (whole !))) (stop !))))) (from ! (stop !)) (init ! 17 refl (tt, tt)) $
@@ -227,7 +228,7 @@ module _ {M : Type 1} (𝓤 : URA M) (H : Heap 𝓤) (A : Atoms 𝓤) (W : Given
       assigns ! (agg ! (and-then ! (load ! (from ! (stop !)) (look ! 13 refl)) (and-then ! (lit ! tt) (no-more !)))) (from ! (stop !)) (init ! 11 refl (tt, (tt, (record { fits = lit< tt }, tt)))) $
       -- the array is lent
       move ! (23 ∷ 0 ∷ []) $ lft-new ! tt (λ α. move ! (1 ∷ 2 ∷ []) $
-      use2 W (later (some (λ (γ : GName). ‵ (MutOf 𝓤 H A W 765 l₅ (α ∷ []) zeros 765 γ) ⊛ ‵ (flent (α ∷ []) (Held u32 765 l₅ 0 γ))))) (lend-mut 𝓤 H A W 765 l₅ (α ∷ []) zeros few zero-val) $ await ! tt $ pick ! (λ γ. split ! $
+      use2 W (later (some (λ (γ : GName). ‵ (MutOf 𝓤 H A W mostValues l₅ (α ∷ []) zeros mostValues γ) ⊛ ‵ (flent (α ∷ []) (Held u32 mostValues l₅ 0 γ))))) (lend-mut 𝓤 H A W mostValues l₅ (α ∷ []) zeros few zero-val) $ await ! tt $ pick ! (λ γ. split ! $
       -- [the slice; the lender's part; α's token; the locals but _5; the tokens; what the parameters own]
       move ! (37 ∷ 36 ∷ []) $ fsplit ! $ move ! (1 ∷ []) $ fsplit ! $ move ! (1 ∷ []) $ fsplit ! $ move ! (1 ∷ []) $ fsplit ! $ move ! (5 ∷ []) $ split ! $ move ! (1 ∷ []) $ split ! $ move ! (1 ∷ []) $ split ! $
       -- [rows's token; true; cuts's; sheet's; rows; true; cuts; room; sheet; the slice; the lender's part; α's token; the locals]
@@ -244,9 +245,9 @@ module _ {M : Type 1} (𝓤 : URA M) (H : Heap 𝓤) (A : Atoms 𝓤) (W : Given
       -- [the answer; α's token; true; cuts's; sheet's; the values; true; the cuts; the lender's part; rows's token; rows; sheet; the locals]
       peeks ! E.the-row (Is E.the-row) (shows 𝓤 H A E.the-row) a (u ∷ []) (λ is. land ! (from ! (stop !)) (init ! 32 refl (typed a u is)) $
       -- the array comes back, and is lent again
-      move ! (1 ∷ []) $ lft-end ! tt $ move ! (0 ∷ 8 ∷ 5 ∷ []) $ use3 W (later (‵ (Arr (mem u32) 765 .lies (ws .1 .1 .1 .1 .0) l₅ 0))) (slice-back 𝓤 H A W u32 (α ∷ []) γ (ws .1 .1 .1 .1 .0) 765 l₅ 0) $ await ! tt $
+      move ! (1 ∷ []) $ lft-end ! tt $ move ! (0 ∷ 8 ∷ 5 ∷ []) $ use3 W (later (‵ (Arr (mem u32) mostValues .lies (ws .1 .1 .1 .1 .0) l₅ 0))) (slice-back 𝓤 H A W u32 (α ∷ []) γ (ws .1 .1 .1 .1 .0) mostValues l₅ 0) $ await ! tt $
       lft-new ! tt (λ β. move ! (1 ∷ []) $
-      use1 W (later (some (λ (δ : GName). ‵ (ShrOf 𝓤 H A W 765 l₅ (β ∷ []) (ws .1 .1 .1 .1 .0) 765 δ) ⊛ ‵ (flent (β ∷ []) (Elems 𝓤 H A W 765 l₅ (β ∷ []) (ws .1 .1 .1 .1 .0) 765))))) (lend-shr 𝓤 H A W 765 l₅ (β ∷ []) (ws .1 .1 .1 .1 .0) few) $ await ! tt $ pick ! (λ δ. split ! $
+      use1 W (later (some (λ (δ : GName). ‵ (ShrOf 𝓤 H A W mostValues l₅ (β ∷ []) (ws .1 .1 .1 .1 .0) mostValues δ) ⊛ ‵ (flent (β ∷ []) (Elems 𝓤 H A W mostValues l₅ (β ∷ []) (ws .1 .1 .1 .1 .0) mostValues))))) (lend-shr 𝓤 H A W mostValues l₅ (β ∷ []) (ws .1 .1 .1 .1 .0) few) $ await ! tt $ pick ! (λ δ. split ! $
       -- [the slice; the lender's part; β's token; the answer; true; cuts's; sheet's; true; the cuts; rows's token; rows; sheet; the locals]
       assigns ! (addr ! (from ! (fld ! refl (hop ! (look-in ! 35 (sub ! 0 refl (whole !))) (stop !))))) (from ! (stop !)) (init ! 20 refl (tt, tt)) $
       assigns ! (agg ! (and-then ! (load ! (from ! (stop !)) (look ! 20 refl)) (and-then ! (load ! (from ! (fld ! refl (stop !))) (look-in ! 35 (sub ! 1 refl (whole !)))) (no-more !)))) (from ! (stop !)) (init ! 18 refl (tt, (tt, (record { fits = gr .0 }, tt)))) $
@@ -270,7 +271,7 @@ module _ {M : Type 1} (𝓤 : URA M) (H : Heap 𝓤) (A : Atoms 𝓤) (W : Given
       move ! (1 ∷ []) $ split ! $ move ! (1 ∷ []) $ peeks ! usize (Is usize) (shows 𝓤 H A usize) k (p ∷ []) (λ isk.
       land ! (from ! (stop !)) (store ! 29 refl (uint-lawful 𝓤 H A W w64 .typed k _ isk .0)) $ drop ! $ split ! $ move ! (1 ∷ []) $ split ! $
       -- [β's token; true; rows's; the rows; the lender's part; the answer; true; cuts's; sheet's; true; the cuts; sheet; the locals]
-      lft-end ! tt $ move ! (0 ∷ 4 ∷ []) $ lent-back ! tt $ use1 W (‵ (froom (arrayTy 765) l₅ 0)) (elems-room 𝓤 H A W 765 l₅ (β ∷ []) (ws .1 .1 .1 .1 .0)) $
+      lft-end ! tt $ move ! (0 ∷ 4 ∷ []) $ lent-back ! tt $ use1 W (‵ (froom (arrayTy mostValues) l₅ 0)) (elems-room 𝓤 H A W mostValues l₅ (β ∷ []) (ws .1 .1 .1 .1 .0)) $
       -- [_5; true; rows's token; the rows; the answer; true; cuts's; sheet's; true; the cuts; sheet; the locals]
       assigns ! (of-opd ! (load ! (from ! (stop !)) (look ! 31 refl))) (from ! (stop !)) (init ! 42 refl (typed a u is)) $
       returns ! (look ! 42 refl) $ forget ! 11 refl $ forget ! 13 refl $ forget ! 15 refl $ forget ! 17 refl $ forget ! 19 refl $ forget ! 21 refl $ forget ! 23 refl $ forget ! 25 refl $ forget ! 27 refl $ forget ! 29 refl $ forget ! 31 refl $ forget ! 34 refl $ forget ! 36 refl $ forget ! 38 refl $ forget ! 40 refl $ forget ! 42 refl $
