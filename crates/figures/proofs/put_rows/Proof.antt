@@ -71,11 +71,21 @@ element-copy-out-put-row-2 c = search needs
 
 -- src/lib.rt:84:9
 put-row-requires : tie.Need-put-row-requires Inv-loop μ-loop
-put-row-requires c κs = let p = c .before .before .before .before .before .before .before .before .before .before .pre in
-    let l = c .before .before .before .before .before .before .before .loop in
-    let t = c .before .before .before .before .before .before .loop-test .taken in
+put-row-requires c κs =
+    let loop-test-at = c .before .before .before .before .before .before in
+    let loop-at = loop-test-at .before in
+    let entry = loop-at .before .before .before in
+    let p = entry .pre in
+    let l = loop-at .loop in
+    let t = loop-test-at .loop-test .taken in
     let e = ap length (l .inv .1) ∙ puts-length 0 _ _ in
-    (omega (arith, t, p .0 .0), omega (arith, t, e, p .0 .1), c .before .before .before .tenths .ensures .1, p .1 .1 (l .i) (omega (arith, t)), p .1 .1 (l .i + 1) (omega (arith, t)))
+    (
+      omega (arith, t, p .0 .0),
+      omega (arith, t, e, p .0 .1),
+      c .before .before .before .tenths .ensures .1,
+      p .1 .1 (l .i) (omega (arith, t)),
+      p .1 .1 (l .i + 1) (omega (arith, t)),
+    )
 
 -- src/lib.rt:85:9
 add-i : tie.Need-add-i Inv-loop μ-loop
@@ -87,9 +97,18 @@ loop-less c = search needs
 
 -- src/lib.rt:81:5
 loop-again : tie.Need-loop-again Inv-loop μ-loop
-loop-again c = let g = c .before .before .before .before .before .before .before .before .before .before .before .before .args in
-    let l = c .before .before .before .before .before .before .before .before .before .loop in
-    (omega (arith, c .before .before .before .before .before .before .before .before .loop-test .taken), again (g .costs .now) (g .log .now) (g .estimates .now) (l .i) (g .rows .now) (l .inv .1) (c .before .before .before .before .before .tenths .ensures .0) (c .before .put-row .ensures))
+loop-again c =
+    let tenths-at = c .before .before .before .before .before in
+    let loop-test-at = tenths-at .before .before .before in
+    let loop-at = loop-test-at .before in
+    let entry = loop-at .before .before .before in
+    let g = entry .args in
+    let l = loop-at .loop in
+    (
+      omega (arith, loop-test-at .loop-test .taken),
+      again (g .costs .now) (g .log .now) (g .estimates .now) (l .i) (g .rows .now) (l .inv .1) (tenths-at .tenths .ensures .0)
+      (c .before .put-row .ensures),
+    )
 
 -- src/lib.rt:74:1
 same-length : tie.Need-same-length Inv-loop μ-loop

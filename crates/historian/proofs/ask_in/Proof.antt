@@ -28,7 +28,15 @@ enum-known-asked : tie.Need-enum-known-asked
 enum-known-asked c = search needs
 
 put-values-requires : tie.Need-put-values-requires
-put-values-requires c κs = let g = c .before .before .before .before .before .before .before .before .before .before .before .before .before .before .before .args in asked-go (g .model .now) (g .sheet .now) (g .states .now) (g .estimates .now) (g .list .now) (c .before .before .before .before .before .before .before .before .before .usable-places .result) (c .before .before .before .before .before .before .before .question .ensures) (omega (arith, c .before .before .before .before .before .before .before .before .before .before .before .before .before .before .before .pre, at-most _ _ (c .before .before .before .before .before .before .before .before .before .usable-places .ensures))) (c .before .before .before .asked .given .0 .0) (c .before .before .before .asked .given .1) (omega (arith, all-there _ _ (c .before .before .before .before .before .before .before .before .before .usable-places .ensures)))
+put-values-requires c κs =
+    let question-at = c .before .before .before .before .before .before .before in
+    let usable-places-at = question-at .before .before in
+    let entry = usable-places-at .before .before .before .before .before .before in
+    let g = entry .args in
+    asked-go (g .model .now) (g .sheet .now) (g .states .now) (g .estimates .now) (g .list .now) (usable-places-at .usable-places .result)
+    (question-at .question .ensures) (omega (arith, entry .pre, at-most _ _ (usable-places-at .usable-places .ensures)))
+    (c .before .before .before .asked .given .0 .0) (c .before .before .before .asked .given .1)
+    (omega (arith, all-there _ _ (usable-places-at .usable-places .ensures)))
 
 enum-known-number : tie.Need-enum-known-number
 enum-known-number c = search needs
@@ -43,13 +51,28 @@ same-length-2 : tie.Need-same-length-2
 same-length-2 c = search needs
 
 returns : tie.Need-returns
-returns c = let g = c .before .before .before .before .before .before .before .before .before .before .before .before .before .before .before .before .before .before .args in asked-in (g .model .now) (g .sheet .now) (g .states .now) (g .estimates .now) (g .list .now) (c .before .before .before .before .before .before .before .before .before .before .before .before .usable-places .result) (c .before .before .before .before .before .before .before .before .before .before .question .ensures) (omega (arith, c .before .before .before .before .before .before .before .before .before .before .before .before .before .before .before .before .before .before .pre, at-most _ _ (c .before .before .before .before .before .before .before .before .before .before .before .before .usable-places .ensures))) _ (c .before .before .before .before .before .before .before .before .before .before .before .before .usable-places .ensures) refl (c .before .before .before .before .before .before .asked .given .0 .0) (c .before .before .before .before .before .before .asked .given .1) (c .before .before .put-values .ensures)
+returns c =
+    let asked-at = c .before .before .before .before .before .before in
+    let question-at = asked-at .before .before .before .before in
+    let usable-places-at = question-at .before .before in
+    let entry = usable-places-at .before .before .before .before .before .before in
+    let g = entry .args in
+    asked-in (g .model .now) (g .sheet .now) (g .states .now) (g .estimates .now) (g .list .now) (usable-places-at .usable-places .result)
+    (question-at .question .ensures) (omega (arith, entry .pre, at-most _ _ (usable-places-at .usable-places .ensures))) _
+    (usable-places-at .usable-places .ensures) refl (asked-at .asked .given .0 .0) (asked-at .asked .given .1) (c .before .before .put-values .ensures)
 
 same-length-3 : tie.Need-same-length-3
 same-length-3 c = search needs
 
 returns-2 : tie.Need-returns-2
-returns-2 c = let g = c .before .before .before .before .before .before .before .before .before .before .before .before .before .args in refused-in (g .model .now) (g .sheet .now) (g .states .now) (g .estimates .now) (g .list .now) (c .before .before .before .before .before .before .before .usable-places .result) (c .before .before .before .before .before .question .ensures) (omega (arith, c .before .before .before .before .before .before .before .before .before .before .before .before .before .pre, at-most _ _ (c .before .before .before .before .before .before .before .usable-places .ensures))) _ (c .before .before .before .before .before .before .before .usable-places .ensures) refl (c .before .number .given .0 .0) (c .before .number .given .1)
+returns-2 c =
+    let question-at = c .before .before .before .before .before in
+    let usable-places-at = question-at .before .before in
+    let entry = usable-places-at .before .before .before .before .before .before in
+    let g = entry .args in
+    refused-in (g .model .now) (g .sheet .now) (g .states .now) (g .estimates .now) (g .list .now) (usable-places-at .usable-places .result)
+    (question-at .question .ensures) (omega (arith, entry .pre, at-most _ _ (usable-places-at .usable-places .ensures))) _
+    (usable-places-at .usable-places .ensures) refl (c .before .number .given .0 .0) (c .before .number .given .1)
 
 pub ask-in-spec : {M : Type 1} → statement M
 ask-in-spec =

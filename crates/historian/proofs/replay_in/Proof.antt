@@ -32,28 +32,76 @@ get-values-requires : tie.Need-get-values-requires
 get-values-requires c κs = (omega (arith, at-most _ _ (c .before .before .usable-places .ensures)), omega (arith, all-there _ _ (c .before .before .usable-places .ensures)), omega (arith, c .before .before .before .before .before .before .before .before .pre .0, at-most _ _ (c .before .before .usable-places .ensures)))
 
 slice-reshare-prefix-replay : tie.Need-slice-reshare-prefix-replay
-slice-reshare-prefix-replay c = let g = c .before .before .before .before .before .before .before .before .before .before .before .args in got-fits (g .log .now) (g .steps .now) (c .before .before .before .before .before .usable-places .result) (c .before .before .get-values .ensures) (omega (arith, c .before .before .before .before .before .before .before .before .before .before .before .pre .0, at-most _ _ (c .before .before .before .before .before .usable-places .ensures)))
+slice-reshare-prefix-replay c =
+    let usable-places-at = c .before .before .before .before .before in
+    let entry = usable-places-at .before .before .before .before .before .before in
+    let g = entry .args in
+    got-fits (g .log .now) (g .steps .now) (usable-places-at .usable-places .result) (c .before .before .get-values .ensures)
+    (omega (arith, entry .pre .0, at-most _ _ (usable-places-at .usable-places .ensures)))
 
 slice-aggregate-replay : tie.Need-slice-aggregate-replay
-slice-aggregate-replay c = let g = c .before .before .before .before .before .before .before .before .before .before .before .before .args in sym (length-take-le (c .before .before .before .before .before .before .usable-places .result) _ (got-fits (g .log .now) (g .steps .now) (c .before .before .before .before .before .before .usable-places .result) (c .before .before .before .get-values .ensures) (omega (arith, c .before .before .before .before .before .before .before .before .before .before .before .before .pre .0, at-most _ _ (c .before .before .before .before .before .before .usable-places .ensures)))))
+slice-aggregate-replay c =
+    let usable-places-at = c .before .before .before .before .before .before in
+    let entry = usable-places-at .before .before .before .before .before .before in
+    let g = entry .args in
+    sym
+    (length-take-le (usable-places-at .usable-places .result) _ (got-fits (g .log .now) (g .steps .now) (usable-places-at .usable-places .result) (c .before .before .before .get-values .ensures) (omega (arith, entry .pre .0, at-most _ _ (usable-places-at .usable-places .ensures)))))
 
 slice-relend-prefix-replay : tie.Need-slice-relend-prefix-replay
-slice-relend-prefix-replay c = omega (arith, c .before .before .before .before .before .before .before .before .before .before .before .before .pre .1, at-most _ _ (c .before .before .before .before .before .usable-places2 .ensures))
+slice-relend-prefix-replay c =
+    let usable-places2-at = c .before .before .before .before .before in
+    let entry = usable-places2-at .before .before .before .before .before .before .before in
+    omega (arith, entry .pre .1, at-most _ _ (usable-places2-at .usable-places2 .ensures))
 
 slice-aggregate-replay-2 : tie.Need-slice-aggregate-replay-2
-slice-aggregate-replay-2 c = sym (length-take-le (c .before .before .before .before .before .before .usable-places2 .result * 3) (c .before .before .before .before .before .before .before .before .before .before .before .before .before .args .list .now) (omega (arith, c .before .before .before .before .before .before .before .before .before .before .before .before .before .pre .1, at-most _ _ (c .before .before .before .before .before .before .usable-places2 .ensures))))
+slice-aggregate-replay-2 c =
+    let usable-places2-at = c .before .before .before .before .before .before in
+    let entry = usable-places2-at .before .before .before .before .before .before .before in
+    sym
+    (length-take-le (usable-places2-at .usable-places2 .result * 3) (entry .args .list .now) (omega (arith, entry .pre .1, at-most _ _ (usable-places2-at .usable-places2 .ensures))))
 
 replay-requires : tie.Need-replay-requires
 replay-requires c κs = search needs
 
 replayed-values-requires : tie.Need-replayed-values-requires
-replayed-values-requires c κs = let g = c .before .before .before .before .before .before .before .before .before .before .before .before .before .before .before .before .args in rows-few (g .log .now) (g .steps .now) (c .before .before .before .before .before .before .before .before .before .before .usable-places .result) (c .before .before .before .before .before .before .before .get-values .ensures) (g .model .now) (g .sheet .now) (g .rows .now) (g .list .now) (c .before .before .before .before .before .before .before .before .before .usable-places2 .result) (c .before .before .before .before .before .before .before .before .before .before .before .before .before .before .before .before .pre .1) (c .before .before .before .before .before .before .before .before .before .usable-places2 .ensures) (c .before .before .replay .ensures)
+replayed-values-requires c κs =
+    let get-values-at = c .before .before .before .before .before .before .before in
+    let usable-places2-at = get-values-at .before .before in
+    let usable-places-at = usable-places2-at .before in
+    let entry = usable-places-at .before .before .before .before .before .before in
+    let g = entry .args in
+    rows-few (g .log .now) (g .steps .now) (usable-places-at .usable-places .result) (get-values-at .get-values .ensures) (g .model .now) (g .sheet .now)
+    (g .rows .now) (g .list .now) (usable-places2-at .usable-places2 .result) (entry .pre .1) (usable-places2-at .usable-places2 .ensures)
+    (c .before .before .replay .ensures)
 
 put-signed-requires : tie.Need-put-signed-requires
-put-signed-requires c κs = let g = c .before .before .before .before .before .before .before .before .before .before .before .before .before .before .before .before .before .before .args in rows-go (g .log .now) (g .steps .now) (c .before .before .before .before .before .before .before .before .before .before .before .before .usable-places .result) (c .before .before .before .before .before .before .before .before .before .get-values .ensures) (g .model .now) (g .sheet .now) (g .rows .now) (g .list .now) (c .before .before .before .before .before .before .before .before .before .before .before .usable-places2 .result) (c .before .before .before .before .before .before .before .before .before .before .before .before .before .before .before .before .before .before .pre .1) (c .before .before .before .before .before .before .before .before .before .before .before .usable-places2 .ensures) (c .before .before .before .before .replay .ensures) (c .before .replayed-values .ensures)
+put-signed-requires c κs =
+    let replay-at = c .before .before .before .before in
+    let get-values-at = replay-at .before .before .before .before .before in
+    let usable-places2-at = get-values-at .before .before in
+    let usable-places-at = usable-places2-at .before in
+    let entry = usable-places-at .before .before .before .before .before .before in
+    let g = entry .args in
+    rows-go (g .log .now) (g .steps .now) (usable-places-at .usable-places .result) (get-values-at .get-values .ensures) (g .model .now) (g .sheet .now)
+    (g .rows .now) (g .list .now) (usable-places2-at .usable-places2 .result) (entry .pre .1) (usable-places2-at .usable-places2 .ensures)
+    (replay-at .replay .ensures) (c .before .replayed-values .ensures)
 
 replay-number-requires : tie.Need-replay-number-requires
-replay-number-requires c κs = let g = c .before .before .before .before .before .before .before .before .before .before .before .before .before .before .before .before .before .before .before .before .before .args in (rows-few (g .log .now) (g .steps .now) (c .before .before .before .before .before .before .before .before .before .before .before .before .before .before .before .usable-places .result) (c .before .before .before .before .before .before .before .before .before .before .before .before .get-values .ensures) (g .model .now) (g .sheet .now) (g .rows .now) (g .list .now) (c .before .before .before .before .before .before .before .before .before .before .before .before .before .before .usable-places2 .result) (c .before .before .before .before .before .before .before .before .before .before .before .before .before .before .before .before .before .before .before .before .before .pre .1) (c .before .before .before .before .before .before .before .before .before .before .before .before .before .before .usable-places2 .ensures) (c .before .before .before .before .before .before .before .replay .ensures), row-few (g .log .now) (g .steps .now) (c .before .before .before .before .before .before .before .before .before .before .before .before .before .before .before .usable-places .result) (c .before .before .before .before .before .before .before .before .before .before .before .before .get-values .ensures) (g .model .now) (g .sheet .now) (g .rows .now) (g .list .now) (c .before .before .before .before .before .before .before .before .before .before .before .before .before .before .usable-places2 .result) (c .before .before .before .before .before .before .before .before .before .before .before .before .before .before .before .before .before .before .before .before .before .pre .1) (c .before .before .before .before .before .before .before .before .before .before .before .before .before .before .usable-places2 .ensures) (c .before .before .before .before .before .before .before .replay .ensures) (omega (arith, at-most _ _ (c .before .before .before .before .before .before .before .before .before .before .before .before .before .before .before .usable-places .ensures))))
+replay-number-requires c κs =
+    let replay-at = c .before .before .before .before .before .before .before in
+    let get-values-at = replay-at .before .before .before .before .before in
+    let usable-places2-at = get-values-at .before .before in
+    let usable-places-at = usable-places2-at .before in
+    let entry = usable-places-at .before .before .before .before .before .before in
+    let g = entry .args in
+    (
+      rows-few (g .log .now) (g .steps .now) (usable-places-at .usable-places .result) (get-values-at .get-values .ensures) (g .model .now) (g .sheet .now)
+      (g .rows .now) (g .list .now) (usable-places2-at .usable-places2 .result) (entry .pre .1) (usable-places2-at .usable-places2 .ensures)
+      (replay-at .replay .ensures),
+      row-few (g .log .now) (g .steps .now) (usable-places-at .usable-places .result) (get-values-at .get-values .ensures) (g .model .now) (g .sheet .now)
+      (g .rows .now) (g .list .now) (usable-places2-at .usable-places2 .result) (entry .pre .1) (usable-places2-at .usable-places2 .ensures)
+      (replay-at .replay .ensures) (omega (arith, at-most _ _ (usable-places-at .usable-places .ensures))),
+    )
 
 same-length : tie.Need-same-length
 same-length c = search needs
@@ -65,7 +113,18 @@ same-length-3 : tie.Need-same-length-3
 same-length-3 c = search needs
 
 returns : tie.Need-returns
-returns c = let g = c .before .before .before .before .before .before .before .before .before .before .before .before .before .before .before .before .before .before .before .before .before .before .args in replayed-in (g .log .now) (g .steps .now) (c .before .before .before .before .before .before .before .before .before .before .before .before .before .before .before .before .usable-places .result) (c .before .before .before .before .before .before .before .before .before .before .before .before .before .get-values .ensures) (g .model .now) (g .sheet .now) (g .rows .now) (g .list .now) (c .before .before .before .before .before .before .before .before .before .before .before .before .before .before .before .usable-places2 .result) (c .before .before .before .before .before .before .before .before .before .before .before .before .before .before .before .before .before .before .before .before .before .before .pre .1) (c .before .before .before .before .before .before .before .before .before .before .before .before .before .before .before .usable-places2 .ensures) (c .before .before .before .before .before .before .before .before .replay .ensures) _ (c .before .before .before .before .before .before .before .before .before .before .before .before .before .before .before .before .usable-places .ensures) refl (c .before .before .before .before .before .replayed-values .ensures) (c .replay-number .ensures) (c .before .before .before .put-signed .ensures)
+returns c =
+    let replayed-values-at = c .before .before .before .before .before in
+    let replay-at = replayed-values-at .before .before .before in
+    let get-values-at = replay-at .before .before .before .before .before in
+    let usable-places2-at = get-values-at .before .before in
+    let usable-places-at = usable-places2-at .before in
+    let entry = usable-places-at .before .before .before .before .before .before in
+    let g = entry .args in
+    replayed-in (g .log .now) (g .steps .now) (usable-places-at .usable-places .result) (get-values-at .get-values .ensures) (g .model .now) (g .sheet .now)
+    (g .rows .now) (g .list .now) (usable-places2-at .usable-places2 .result) (entry .pre .1) (usable-places2-at .usable-places2 .ensures)
+    (replay-at .replay .ensures) _ (usable-places-at .usable-places .ensures) refl (replayed-values-at .replayed-values .ensures)
+    (c .replay-number .ensures) (c .before .before .before .put-signed .ensures)
 
 pub replay-in-spec : {M : Type 1} → statement M
 replay-in-spec =

@@ -50,19 +50,61 @@ run-requires : tie.Need-run-requires
 run-requires c κs = search needs
 
 cut-values-requires : tie.Need-cut-values-requires
-cut-values-requires c κs = let g = c .before .before .before .before .before .before .before .before .before .before .before .before .before .before .before .args in counted (g .sheet .now) (g .room) (g .cut-list .now) (g .row-list .now) (c .before .before .before .before .before .before .before .before .before .usable-places .result) (c .before .before .before .before .before .before .before .before .usable-places2 .result) (c .before .before .before .before .before .run .ensures)
+cut-values-requires c κs =
+    let run-at = c .before .before .before .before .before in
+    let usable-places2-at = run-at .before .before .before in
+    let usable-places-at = usable-places2-at .before in
+    let entry = usable-places-at .before .before .before .before .before .before in
+    let g = entry .args in
+    counted (g .sheet .now) (g .room) (g .cut-list .now) (g .row-list .now) (usable-places-at .usable-places .result)
+    (usable-places2-at .usable-places2 .result) (run-at .run .ensures)
 
 put-values-requires : tie.Need-put-values-requires
-put-values-requires c κs = let g = c .before .before .before .before .before .before .before .before .before .before .before .before .before .before .before .before .before .args in cuts-go (g .sheet .now) (g .room) (g .cut-list .now) (g .row-list .now) (c .before .before .before .before .before .before .before .before .before .before .before .usable-places .result) (c .before .before .before .before .before .before .before .before .before .before .usable-places2 .result) (c .before .before .before .before .before .before .before .run .ensures) (g .cuts .now) (c .before .before .before .before .before .before .before .before .before .before .before .before .before .before .before .before .before .pre .0) (at-most _ _ (c .before .before .before .before .before .before .before .before .before .before .before .usable-places .ensures)) (omega (arith, all-there _ _ (c .before .before .before .before .before .before .before .before .before .before .before .usable-places .ensures))) (c .before .cut-values .ensures)
+put-values-requires c κs =
+    let run-at = c .before .before .before .before .before .before .before in
+    let usable-places2-at = run-at .before .before .before in
+    let usable-places-at = usable-places2-at .before in
+    let entry = usable-places-at .before .before .before .before .before .before in
+    let g = entry .args in
+    cuts-go (g .sheet .now) (g .room) (g .cut-list .now) (g .row-list .now) (usable-places-at .usable-places .result)
+    (usable-places2-at .usable-places2 .result) (run-at .run .ensures) (g .cuts .now) (entry .pre .0)
+    (at-most _ _ (usable-places-at .usable-places .ensures)) (omega (arith, all-there _ _ (usable-places-at .usable-places .ensures)))
+    (c .before .cut-values .ensures)
 
 row-values-requires : tie.Need-row-values-requires
-row-values-requires c κs = let g = c .before .before .before .before .before .before .before .before .before .before .before .before .before .before .before .before .before .before .before .before .before .args in counted (g .sheet .now) (g .room) (g .cut-list .now) (g .row-list .now) (c .before .before .before .before .before .before .before .before .before .before .before .before .before .before .before .usable-places .result) (c .before .before .before .before .before .before .before .before .before .before .before .before .before .before .usable-places2 .result) (c .before .before .before .before .before .before .before .before .before .before .before .run .ensures)
+row-values-requires c κs =
+    let back = c .before .before .before .before .before .before .before .before in
+    let run-at = back .before .before .before in
+    let usable-places2-at = run-at .before .before .before in
+    let usable-places-at = usable-places2-at .before in
+    let entry = usable-places-at .before .before .before .before .before .before in
+    let g = entry .args in
+    counted (g .sheet .now) (g .room) (g .cut-list .now) (g .row-list .now) (usable-places-at .usable-places .result)
+    (usable-places2-at .usable-places2 .result) (run-at .run .ensures)
 
 put-values-requires-2 : tie.Need-put-values-requires-2
-put-values-requires-2 c κs = let g = c .before .before .before .before .before .before .before .before .before .before .before .before .before .before .before .before .before .before .before .before .before .before .before .args in rows-go (g .sheet .now) (g .room) (g .cut-list .now) (g .row-list .now) (c .before .before .before .before .before .before .before .before .before .before .before .before .before .before .before .before .before .usable-places .result) (c .before .before .before .before .before .before .before .before .before .before .before .before .before .before .before .before .usable-places2 .result) (c .before .before .before .before .before .before .before .before .before .before .before .before .before .run .ensures) (g .rows .now) (c .before .before .before .before .before .before .before .before .before .before .before .before .before .before .before .before .before .before .before .before .before .before .before .pre .1) (at-most _ _ (c .before .before .before .before .before .before .before .before .before .before .before .before .before .before .before .before .usable-places2 .ensures)) (omega (arith, all-there _ _ (c .before .before .before .before .before .before .before .before .before .before .before .before .before .before .before .before .usable-places2 .ensures))) (c .before .row-values .ensures)
+put-values-requires-2 c κs =
+    let back = c .before .before .before .before .before .before .before .before in
+    let run-at = back .before .before .before .before .before in
+    let usable-places2-at = run-at .before .before .before in
+    let usable-places-at = usable-places2-at .before in
+    let entry = usable-places-at .before .before .before .before .before .before in
+    let g = entry .args in
+    rows-go (g .sheet .now) (g .room) (g .cut-list .now) (g .row-list .now) (usable-places-at .usable-places .result)
+    (usable-places2-at .usable-places2 .result) (run-at .run .ensures) (g .rows .now) (entry .pre .1)
+    (at-most _ _ (usable-places2-at .usable-places2 .ensures)) (omega (arith, all-there _ _ (usable-places2-at .usable-places2 .ensures)))
+    (c .before .row-values .ensures)
 
 answer-number-requires : tie.Need-answer-number-requires
-answer-number-requires c κs = let g = c .before .before .before .before .before .before .before .before .before .before .before .before .before .before .before .before .before .before .before .before .before .before .before .before .before .before .args in counted (g .sheet .now) (g .room) (g .cut-list .now) (g .row-list .now) (c .before .before .before .before .before .before .before .before .before .before .before .before .before .before .before .before .before .before .before .before .usable-places .result) (c .before .before .before .before .before .before .before .before .before .before .before .before .before .before .before .before .before .before .before .usable-places2 .result) (c .before .before .before .before .before .before .before .before .before .before .before .before .before .before .before .before .run .ensures)
+answer-number-requires c κs =
+    let back = c .before .before .before .before .before .before .before .before in
+    let run-at = back .before .before .before .before .before .before .before .before in
+    let usable-places2-at = run-at .before .before .before in
+    let usable-places-at = usable-places2-at .before in
+    let entry = usable-places-at .before .before .before .before .before .before in
+    let g = entry .args in
+    counted (g .sheet .now) (g .room) (g .cut-list .now) (g .row-list .now) (usable-places-at .usable-places .result)
+    (usable-places2-at .usable-places2 .result) (run-at .run .ensures)
 
 same-length : tie.Need-same-length
 same-length c = search needs
@@ -77,7 +119,19 @@ same-length-4 : tie.Need-same-length-4
 same-length-4 c = search needs
 
 returns : tie.Need-returns
-returns c = let g = c .before .before .before .before .before .before .before .before .before .before .before .before .before .before .before .before .before .before .before .before .before .before .before .before .before .before .before .args in told-in (g .sheet .now) (g .room) (g .cut-list .now) (g .row-list .now) (c .before .before .before .before .before .before .before .before .before .before .before .before .before .before .before .before .before .before .before .before .before .usable-places .result) (c .before .before .before .before .before .before .before .before .before .before .before .before .before .before .before .before .before .before .before .before .usable-places2 .result) (c .before .before .before .before .before .before .before .before .before .before .before .before .before .before .before .before .before .run .ensures) (g .cuts .now) (g .rows .now) (c .before .before .before .before .before .before .before .before .before .before .before .before .before .before .before .before .before .before .before .before .before .before .before .before .before .before .before .pre) (c .before .before .before .before .before .before .before .before .before .before .before .before .before .before .before .before .before .before .before .before .before .usable-places .ensures) (c .before .before .before .before .before .before .before .before .before .before .before .before .before .before .before .before .before .before .before .before .usable-places2 .ensures) (c .before .before .before .before .before .before .before .before .before .before .before .cut-values .ensures) (c .before .before .before .before .before .row-values .ensures) (c .answer-number .ensures) (c .before .before .before .before .before .before .before .before .before .put-values .ensures) (c .before .before .before .put-values2 .ensures)
+returns c =
+    let row-values-at = c .before .before .before .before .before in
+    let put-values-at = row-values-at .before .before .before .before in
+    let cut-values-at = put-values-at .before .before in
+    let run-at = cut-values-at .before .before .before .before .before .before in
+    let usable-places2-at = run-at .before .before .before in
+    let usable-places-at = usable-places2-at .before in
+    let entry = usable-places-at .before .before .before .before .before .before in
+    let g = entry .args in
+    told-in (g .sheet .now) (g .room) (g .cut-list .now) (g .row-list .now) (usable-places-at .usable-places .result)
+    (usable-places2-at .usable-places2 .result) (run-at .run .ensures) (g .cuts .now) (g .rows .now) (entry .pre) (usable-places-at .usable-places .ensures)
+    (usable-places2-at .usable-places2 .ensures) (cut-values-at .cut-values .ensures) (row-values-at .row-values .ensures) (c .answer-number .ensures)
+    (put-values-at .put-values .ensures) (c .before .before .before .put-values2 .ensures)
 
 pub run-in-spec : {M : Type 1} → statement M
 run-in-spec =

@@ -17,7 +17,10 @@ same-length : tie.Need-same-length
 same-length c = search needs
 
 returns : tie.Need-returns
-returns c = joined (c .before .before .before .before .before .before .before .before .before .before .args .text .now) (c .before .before .before .before .before .before .before .before .before .before .args .n) (c .before .before .before .before .before .before .put-text .ensures) (c .before .before .put-number .ensures)
+returns c =
+    let put-text-at = c .before .before .before .before .before .before in
+    let entry = put-text-at .before .before .before .before in
+    joined (entry .args .text .now) (entry .args .n) (put-text-at .put-text .ensures) (c .before .before .put-number .ensures)
 
 pub put-labelled-spec : {M : Type 1} → statement M
 put-labelled-spec = tie.close (tie.spec put-text-requires put-number-requires same-length returns)

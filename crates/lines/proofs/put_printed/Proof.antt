@@ -45,7 +45,12 @@ same-length-2 : tie.Need-same-length-2
 same-length-2 c = search needs
 
 returns-2 : tie.Need-returns-2
-returns-2 c = printed-run (c .before .before .before .before .before .before .before .before .before .before .before .before .before .args .input .now) (c .before .before .before .before .before .before .before .before .before .before .before .before .before .pre) (c .before .before .before .before .before .before .before .before .before .before .if1 .left) (c .before .before .before .before .before .before .before .before .before .field .ensures) (c .before .before .before .before .put-run .ensures)
+returns-2 c =
+    let put-run-at = c .before .before .before .before in
+    let field-at = put-run-at .before .before .before .before .before in
+    let if1-at = field-at .before in
+    let entry = if1-at .before .before .before in
+    printed-run (entry .args .input .now) (entry .pre) (if1-at .if1 .left) (field-at .field .ensures) (put-run-at .put-run .ensures)
 
 pub put-printed-spec : {M : Type 1} → statement M
 put-printed-spec =

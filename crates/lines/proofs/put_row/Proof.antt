@@ -33,7 +33,10 @@ wide-requires : tie.Need-wide-requires
 wide-requires c κs = search needs
 
 put-labelled-requires : tie.Need-put-labelled-requires
-put-labelled-requires c κs = omega (arith, c .before .before .before .before .before .before .before .before .before .before .pre .2, decimal-most _ (c .before .before .before .before .before .before .put-number .ensures), same-long (c .before .before .before .before .before .before .put-number .ensures))
+put-labelled-requires c κs =
+    let put-number-at = c .before .before .before .before .before .before in
+    let entry = put-number-at .before .before .before .before in
+    omega (arith, entry .pre .2, decimal-most _ (put-number-at .put-number .ensures), same-long (put-number-at .put-number .ensures))
 
 slice-aggregate-put-labelled-2 : tie.Need-slice-aggregate-put-labelled-2
 slice-aggregate-put-labelled-2 c = search needs
@@ -52,8 +55,12 @@ wide-requires-2 c κs = search needs
 
 put-labelled-requires-2 : tie.Need-put-labelled-requires-2
 put-labelled-requires-2 c κs =
-    let n = c .before .before .before .before .before .before .before .before .before .before .before .before .before .put-number .ensures in
-    omega (arith, c .before .before .before .before .before .before .before .before .before .before .before .before .before .before .before .before .before .pre .2, decimal-most _ n, same-long n, labelled-most space _ (c .before .before .before .before .before .before .put-labelled .ensures), same-long (c .before .before .before .before .before .before .put-labelled .ensures))
+    let put-labelled-at = c .before .before .before .before .before .before in
+    let put-number-at = put-labelled-at .before .before .before .before .before .before .before in
+    let entry = put-number-at .before .before .before .before in
+    let n = put-number-at .put-number .ensures in
+    omega
+    (arith, entry .pre .2, decimal-most _ n, same-long n, labelled-most space _ (put-labelled-at .put-labelled .ensures), same-long (put-labelled-at .put-labelled .ensures))
 
 slice-aggregate-put-labelled-3 : tie.Need-slice-aggregate-put-labelled-3
 slice-aggregate-put-labelled-3 c = search needs
@@ -72,19 +79,30 @@ wide-requires-3 c κs = search needs
 
 put-labelled-requires-3 : tie.Need-put-labelled-requires-3
 put-labelled-requires-3 c κs =
-    let n = c .before .before .before .before .before .before .before .before .before .before .before .before .before .before .before .before .before .before .before .before .put-number .ensures in
-    let x = c .before .before .before .before .before .before .before .before .before .before .before .before .before .put-labelled .ensures in
-    omega (arith, c .before .before .before .before .before .before .before .before .before .before .before .before .before .before .before .before .before .before .before .before .before .before .before .before .pre .2, decimal-most _ n, same-long n, labelled-most space _ x, same-long x, labelled-most space _ (c .before .before .before .before .before .before .put-labelled2 .ensures), same-long (c .before .before .before .before .before .before .put-labelled2 .ensures))
+    let put-labelled2-at = c .before .before .before .before .before .before in
+    let put-labelled-at = put-labelled2-at .before .before .before .before .before .before .before in
+    let put-number-at = put-labelled-at .before .before .before .before .before .before .before in
+    let entry = put-number-at .before .before .before .before in
+    let n = put-number-at .put-number .ensures in
+    let x = put-labelled-at .put-labelled .ensures in
+    omega
+    (arith, entry .pre .2, decimal-most _ n, same-long n, labelled-most space _ x, same-long x, labelled-most space _ (put-labelled2-at .put-labelled2 .ensures), same-long (put-labelled2-at .put-labelled2 .ensures))
 
 slice-aggregate-put-text : tie.Need-slice-aggregate-put-text
 slice-aggregate-put-text c = search needs
 
 put-text-requires : tie.Need-put-text-requires
 put-text-requires c κs =
-    let n = c .before .before .before .before .before .before .before .before .before .before .before .before .before .before .before .before .before .before .before .before .before .before .before .before .before .put-number .ensures in
-    let x = c .before .before .before .before .before .before .before .before .before .before .before .before .before .before .before .before .before .before .put-labelled .ensures in
-    let y = c .before .before .before .before .before .before .before .before .before .before .before .put-labelled2 .ensures in
-    omega (arith, c .before .before .before .before .before .before .before .before .before .before .before .before .before .before .before .before .before .before .before .before .before .before .before .before .before .before .before .before .before .pre .2, decimal-most _ n, same-long n, labelled-most space _ x, same-long x, labelled-most space _ y, same-long y, labelled-most space _ (c .before .before .before .before .put-labelled3 .ensures), same-long (c .before .before .before .before .put-labelled3 .ensures))
+    let put-labelled3-at = c .before .before .before .before in
+    let put-labelled2-at = put-labelled3-at .before .before .before .before .before .before .before in
+    let put-labelled-at = put-labelled2-at .before .before .before .before .before .before .before in
+    let put-number-at = put-labelled-at .before .before .before .before .before .before .before in
+    let entry = put-number-at .before .before .before .before in
+    let n = put-number-at .put-number .ensures in
+    let x = put-labelled-at .put-labelled .ensures in
+    let y = put-labelled2-at .put-labelled2 .ensures in
+    omega
+    (arith, entry .pre .2, decimal-most _ n, same-long n, labelled-most space _ x, same-long x, labelled-most space _ y, same-long y, labelled-most space _ (put-labelled3-at .put-labelled3 .ensures), same-long (put-labelled3-at .put-labelled3 .ensures))
 
 same-length : tie.Need-same-length
 same-length c = search needs

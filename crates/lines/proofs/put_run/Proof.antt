@@ -16,21 +16,29 @@ run-requires c κs = search needs
 
 put-first-line-requires : tie.Need-put-first-line-requires
 put-first-line-requires c κs =
-    let g = c .before .before .before .before .before .before .before .before .before .before .before .before .args in
-    let p = c .before .before .before .before .before .before .before .before .before .before .before .before .pre in
-    (counted (g .sheet .now) (g .room) (g .cuts .now) (g .rows .now) (p .0, p .1) (c .before .before .before .before .before .run .ensures), omega (arith, p .2))
+    let run-at = c .before .before .before .before .before in
+    let entry = run-at .before .before .before .before .before .before .before in
+    let g = entry .args in
+    let p = entry .pre in
+    (counted (g .sheet .now) (g .room) (g .cuts .now) (g .rows .now) (p .0, p .1) (run-at .run .ensures), omega (arith, p .2))
 
 row-values-requires : tie.Need-row-values-requires
 row-values-requires c κs =
-    let g = c .before .before .before .before .before .before .before .before .before .before .before .before .before .before .before .args in
-    let p = c .before .before .before .before .before .before .before .before .before .before .before .before .before .before .before .pre in
-    counted (g .sheet .now) (g .room) (g .cuts .now) (g .rows .now) (p .0, p .1) (c .before .before .before .before .before .before .before .before .run .ensures)
+    let run-at = c .before .before .before .before .before .before .before .before in
+    let entry = run-at .before .before .before .before .before .before .before in
+    let g = entry .args in
+    let p = entry .pre in
+    counted (g .sheet .now) (g .room) (g .cuts .now) (g .rows .now) (p .0, p .1) (run-at .run .ensures)
 
 put-rows-requires : tie.Need-put-rows-requires
 put-rows-requires c κs =
-    let g = c .before .before .before .before .before .before .before .before .before .before .before .before .before .before .before .before .before .before .args in
-    let p = c .before .before .before .before .before .before .before .before .before .before .before .before .before .before .before .before .before .before .pre in
-    rows-go (g .sheet .now) (g .room) (g .cuts .now) (g .rows .now) (p .0, p .1) (c .before .before .before .before .before .before .before .before .before .before .before .run .ensures) (c .before .before .row-values .ensures) refl (p .2) (c .before .before .before .before .before .put-first-line .ensures)
+    let put-first-line-at = c .before .before .before .before .before in
+    let run-at = put-first-line-at .before .before .before .before .before .before in
+    let entry = run-at .before .before .before .before .before .before .before in
+    let g = entry .args in
+    let p = entry .pre in
+    rows-go (g .sheet .now) (g .room) (g .cuts .now) (g .rows .now) (p .0, p .1) (run-at .run .ensures) (c .before .before .row-values .ensures) refl (p .2)
+    (put-first-line-at .put-first-line .ensures)
 
 same-length : tie.Need-same-length
 same-length c = search needs
@@ -43,9 +51,14 @@ same-length-3 c = search needs
 
 returns : tie.Need-returns
 returns c =
-    let g = c .before .before .before .before .before .before .before .before .before .before .before .before .before .before .before .before .before .before .before .before .before .args in
-    let p = c .before .before .before .before .before .before .before .before .before .before .before .before .before .before .before .before .before .before .before .before .before .pre in
-    lines-put (g .sheet .now) (g .room) (g .cuts .now) (g .rows .now) (p .0, p .1) (c .before .before .before .before .before .before .before .before .before .before .before .before .before .before .run .ensures) (c .before .before .before .before .before .row-values .ensures) refl (c .before .before .before .before .before .before .before .before .put-first-line .ensures) (c .before .before .put-rows .ensures)
+    let row-values-at = c .before .before .before .before .before in
+    let put-first-line-at = row-values-at .before .before .before in
+    let run-at = put-first-line-at .before .before .before .before .before .before in
+    let entry = run-at .before .before .before .before .before .before .before in
+    let g = entry .args in
+    let p = entry .pre in
+    lines-put (g .sheet .now) (g .room) (g .cuts .now) (g .rows .now) (p .0, p .1) (run-at .run .ensures) (row-values-at .row-values .ensures) refl
+    (put-first-line-at .put-first-line .ensures) (c .before .before .put-rows .ensures)
 
 pub put-run-spec : {M : Type 1} → statement M
 put-run-spec =

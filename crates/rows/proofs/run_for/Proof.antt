@@ -37,7 +37,13 @@ same-length-2 : tie.Need-same-length-2
 same-length-2 c = search needs
 
 returns : tie.Need-returns
-returns c = let g = c .before .before .before .before .before .before .before .before .before .before .before .args in told-in (g .sheet .now) (g .room) (g .places) (g .cuts .now) (g .values .now) (c .before .before .before .before .before .before .before .before .before .before .before .pre) (c .before .before .before .before .before .before .before .usable-places .ensures) (c .before .before .before .before .run .ensures)
+returns c =
+    let run-at = c .before .before .before .before in
+    let usable-places-at = run-at .before .before .before in
+    let entry = usable-places-at .before .before .before .before in
+    let g = entry .args in
+    told-in (g .sheet .now) (g .room) (g .places) (g .cuts .now) (g .values .now) (entry .pre) (usable-places-at .usable-places .ensures)
+    (run-at .run .ensures)
 
 pub run-for-spec : {M : Type 1} → statement M
 run-for-spec =
