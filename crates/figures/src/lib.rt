@@ -5,7 +5,7 @@ ghost use lib.ListN.{length, getD};
 ghost use Rattle.task.specs.Sizes.{limits, mostCost};
 ghost use Rattle.fields.specs.Judging.{each};
 ghost use Rattle.fields.specs.Places.{puts};
-ghost use Rattle.figures.specs.Figures.{wonBy, detourBy, rowOf, rowBy};
+ghost use Rattle.figures.specs.Figures.{RowFits, wonBy, detourBy, rowOf, rowBy};
 use task::Model;
 use task::tenths;
 
@@ -34,7 +34,7 @@ fn detour(paid: u32, before: u32, after: u32) -> i32
 
 // Puts row i: three values.
 fn put_row(i: usize, paid: u32, before: u32, after: u32, rows: &mut [i32])
-    requires { ⌜ (i < limits .log) × (i * 3 + 3 ≤ length (now rows)) × (paid ≤ mostCost) × (before ≤ limits .«no_way») × (after ≤ limits .«no_way») ⌝ }
+    requires { ⌜ RowFits i paid before after (length (now rows)) ⌝ }
     ensures { λ _. ⌜ now (rows .exit) ≡ puts (i * 3) (rowOf paid before after) (now (rows .entry)) ⌝ }
 {
     let place = i * 3;

@@ -41,7 +41,8 @@ runOutcome a cuts rows = record { answer = a; cuts = cuts; rows = rows }
 -- a run that is made: the bytes of its cuts, and for a plan those of its rows, over the front of the lists
 unfoldable pub madeBytes : Task → run.Outcome → List ℕ → List ℕ → RunOutcome
 madeBytes t o cuts rows =
-    runOutcome (answerNumber (told t (blockCount o) (o .answer))) (over (bytesOf (listed cutPlace (o .made))) cuts) (over (bytesOf (listed rowPlace (rowsOf t (o .answer)))) rows)
+    runOutcome (answerNumber (told t (blockCount o) (o .answer))) (over (bytesOf (listed cutPlace (o .made))) cuts)
+    (over (bytesOf (listed rowPlace (rowsOf t (o .answer)))) rows)
 
 -- a refusal returns only its number and changes nothing lent
 unfoldable pub runEntry : List ℕ → ℕ → List ℕ → List ℕ → RunOutcome

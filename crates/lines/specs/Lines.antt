@@ -77,7 +77,9 @@ firstLine (Refused n) = labelled refusedText n ++ lineEnd
 
 -- row, step, tenths, tenths left after it: row i of a list, counted from 1
 unfoldable pub rowLine : List ℕ → ℕ → List ℕ
-rowLine list i = decimal (i + 1) ++ (labelled space (getD list (i * 3) 0) ++ (labelled space (getD list (i * 3 + 1) 0) ++ (labelled space (getD list (i * 3 + 2) 0) ++ lineEnd)))
+rowLine list i =
+    decimal (i + 1)
+    ++ (labelled space (getD list (i * 3) 0) ++ (labelled space (getD list (i * 3 + 1) 0) ++ (labelled space (getD list (i * 3 + 2) 0) ++ lineEnd)))
 
 -- a line for each row of a list
 unfoldable pub rowLines : List ℕ → List ℕ

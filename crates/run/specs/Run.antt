@@ -10,7 +10,8 @@ use Rattle.task.specs.declared.Position.{Position}
 use Rattle.task.specs.declared.Step.{Step}
 use Rattle.task.specs.declared.Block.{Block}
 use Rattle.task.specs.Loops.{first, when}
-use Rattle.task.specs.Task.{Task, State, Tenths, column, step, block, at, columnCount, stepCount, sizeOf, costOf, needAt, effectAt, goalAt, perColumn, start, canTake, taken, isGoal, costs}
+use Rattle.task.specs.Task.{Task, State, Tenths, column, step, block, at, columnCount, stepCount, sizeOf, costOf, needAt, effectAt, goalAt, perColumn}
+use Rattle.task.specs.Task.{start, canTake, taken, isGoal, costs}
 use Rattle.blocks.specs.declared.Cut.{Cut}
 use Rattle.blocks.specs.Blocks.{PositionSet, Sets, Blocks, holds, only, every, common, setAt, blockAt, inBlock, blocksOf, blockOf}
 use Rattle.distances.specs.Distances.{Distance, Hop, Table, farOf, plus, zeroFar, leadsTo, distances}

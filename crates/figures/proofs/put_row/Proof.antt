@@ -69,7 +69,7 @@ same-length c = search needs
 returns : tie.Need-returns
 returns c = let g = c .before .before .args in
     let p = c .before .before .pre in
-    row-made (g .paid) (g .before) (g .after) (p .2) (p .3) (p .4) (g .rows .now) _ (c .before .won .ensures) (c .detour .ensures)
+    row-made (g .paid) (g .before) (g .after) (p .cost-low) (p .before-low) (p .after-low) (g .rows .now) _ (c .before .won .ensures) (c .detour .ensures)
 
 pub put-row-spec : {M : Type 1} → statement M
 put-row-spec =

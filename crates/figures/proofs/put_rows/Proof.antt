@@ -79,13 +79,13 @@ put-row-requires c κs =
     let l = loop-at .loop in
     let t = loop-test-at .loop-test .taken in
     let e = ap length (l .inv .1) ∙ puts-length 0 _ _ in
-    (
-      omega (arith, t, p .0 .0),
-      omega (arith, t, e, p .0 .1),
-      c .before .before .before .tenths .ensures .1,
-      p .1 .1 (l .i) (omega (arith, t)),
-      p .1 .1 (l .i + 1) (omega (arith, t)),
-    )
+    record {
+      logged = omega (arith, t, p .0 .0);
+      there = omega (arith, t, e, p .0 .1);
+      cost-low = c .before .before .before .tenths .ensures .1;
+      before-low = p .1 .1 (l .i) (omega (arith, t));
+      after-low = p .1 .1 (l .i + 1) (omega (arith, t));
+    }
 
 -- src/lib.rt:85:9
 add-i : tie.Need-add-i Inv-loop μ-loop
