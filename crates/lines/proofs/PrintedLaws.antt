@@ -77,8 +77,9 @@ module _ (s : List ℕ) (room : ℕ) (c r : List ℕ) (h : (length c ≡ mostVal
     pub counted : Counted a
     counted = count.known s room c r e .counted
 
-    pub rows-go : {k at : ℕ} {l l′ : List ℕ} {v : ℕ} → v ≡ rowValueCount a → k ≡ v / 3 → outputBytes ≤ length l → Put 0 (firstLine a) l at l′ → (k < limits .blocks) × (k * 3 ≤ length r′) × (at + k * lineBytes ≤ length l′)
-    rows-go v q m p =
+    pub rows-go : {k at : ℕ} {l l′ : List ℕ} → k ≡ rowCount a → outputBytes ≤ length l → Put 0 (firstLine a) l at l′ → (k < limits .blocks) × (k * 3 ≤ length r′) × (at + k * lineBytes ≤ length l′)
+    unfolding rowValueCount
+    rows-go q m p =
         let w = count.known s room c r e in
         let f = first-short a in
         (omega (arith, w .rows-fit, h .1), omega (arith, w .rows-in), omega (arith, w .rows-fit, h .1, p .next, f, same-long p))
@@ -86,25 +87,25 @@ module _ (s : List ℕ) (room : ℕ) (c r : List ℕ) (h : (length c ≡ mostVal
     rowList : List ℕ
     rowList = count.rowList s room c r
 
-    lines-ran : count.Ran s room c r a c′ r′ → {k : ℕ} → k ≡ rowValueCount a / 3 → firstLine a ++ each k (rowLine r′) ≡ ranLines s room
-    unfolding ranLines madeLines rowLines over rowList
+    lines-ran : count.Ran s room c r a c′ r′ → {k : ℕ} → k ≡ rowCount a → firstLine a ++ each k (rowLine r′) ≡ ranLines s room
+    unfolding ranLines madeLines rowLines over rowList rowValueCount
     lines-ran b {k} q =
-        let n = count.rows-long s room c r e b in
+        let n : k ≡ length rowList / 3 = omega (arith, q, count.rows-long s room c r e b) in
         let x : each k (rowLine r′) ≡ each (length rowList / 3) (rowLine rowList) =
-        ap₂ (λ (j : ℕ) (m : List ℕ). each j (rowLine m)) (q ∙ ap (λ (j : ℕ). j / 3) n) (b .row-list) ∙ front-rows rowList (drop (length rowList) r) (length rowList / 3) (omega arith) in
+        ap₂ (λ (j : ℕ) (m : List ℕ). each j (rowLine m)) n (b .row-list) ∙ front-rows rowList (drop (length rowList) r) (length rowList / 3) (omega arith) in
         simp (eq-eqb N 0 (checks-same ∙ b .ok)) (ap₂ (λ (u : Answer) (m : List ℕ). firstLine u ++ m) (b .answer) x)
 
-    lines-not : count.NotRan s room c r a c′ r′ → {k : ℕ} → k ≡ rowValueCount a / 3 → firstLine a ++ each k (rowLine r′) ≡ ranLines s room
-    unfolding ranLines rowCount rowValueCount each
+    lines-not : count.NotRan s room c r a c′ r′ → {k : ℕ} → k ≡ rowCount a → firstLine a ++ each k (rowLine r′) ≡ ranLines s room
+    unfolding ranLines rowCount each
     lines-not b {k} q =
-        let z : k ≡ 0 = q ∙ ap (λ (u : Answer). rowValueCount u / 3) (b .answer) in
+        let z : k ≡ 0 = q ∙ ap rowCount (b .answer) in
         ap₂ (λ (u : Answer) (j : ℕ). firstLine u ++ each j (rowLine r′)) (b .answer) z ∙ append-nil _ ∙ ap (λ (j : ℕ). firstLine (Refused j)) (sym checks-same) ∙ sym (simp (ne-eqb N 0 (λ v. b .bad (sym checks-same ∙ v))))
 
-    pub lines-put : {k at at′ : ℕ} {l l′ l″ : List ℕ} {v : ℕ} → v ≡ rowValueCount a → k ≡ v / 3 → Put 0 (firstLine a) l at l′ → Put at (each k (rowLine r′)) l′ at′ l″ × (at′ ≤ at + k * lineBytes) → Put 0 (ranLines s room) l at′ l″ × (at′ ≤ outputBytes)
-    lines-put {k} {at} {at′} {l} {l′} {l″} v q p w =
+    pub lines-put : {k at at′ : ℕ} {l l′ l″ : List ℕ} → k ≡ rowCount a → Put 0 (firstLine a) l at l′ → Put at (each k (rowLine r′)) l′ at′ l″ × (at′ ≤ at + k * lineBytes) → Put 0 (ranLines s room) l at′ l″ × (at′ ≤ outputBytes)
+    unfolding rowValueCount
+    lines-put {k} {at} {at′} {l} {l′} {l″} z p w =
         let g = count.known s room c r e in
         let f = first-short a in
-        let z : k ≡ rowValueCount a / 3 = q ∙ ap (λ (j : ℕ). j / 3) v in
         let same = ⊎-elim (λ (b : count.Ran s room c r a c′ r′). lines-ran b z) (λ (b : count.NotRan s room c r a c′ r′). lines-not b z) (count.ran-or-not s room c r e) in
         (subst (λ (x : List ℕ). Put 0 x l at′ l″) same (join p (w .0)), omega (arith, w .1, g .rows-fit, h .1, p .next, f))
 

@@ -116,7 +116,7 @@ fn put_run(sheet: &[u8], room: u32, cuts: &mut [u32], rows: &mut [u32], out: &mu
 {
     let answer = run(sheet, room, cuts, rows);
     let next = put_first_line(answer, out);
-    let count = answer.row_values() / 3;
+    let count = answer.row_count();
     put_rows(rows, count, out, next)
 }
 

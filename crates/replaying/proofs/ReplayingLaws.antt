@@ -25,7 +25,7 @@ use Rattle.cut_sheets.specs.CutSheet.{tailOf, cutSheetChecks, cutsOf}
 use Rattle.cut_sheets.specs.Judged.{Made}
 use Rattle.cut_reading.specs.Rebuilding.{SheetJudged}
 use Rattle.cut_reading.proofs.RebuildLaws.{sheets-ok}
-use Rattle.cut_laws.proofs.Refusals.{rebuildNumbers, sheets-numbers}
+use Rattle.cut_laws.proofs.Refusals.{sheetsNumbers, sheets-numbers}
 use Rattle.replay.specs.declared.Replayed.{Replayed}
 use Rattle.replay.specs.declared.Replayed.the-variants.{Rows, Stopped, Refused}
 use Rattle.replay.specs.Replay.{badRow, rowList, logChecks, replayChecks, refused, Outcome, outcome, replaying, Replays}
@@ -52,7 +52,7 @@ module _ (m s log : List ℕ) (rows : List ℤ) where
     unfolding replayChecks
     sheets-refused z =
         refusing (j .refused ∙ sym (refusal-append (cutSheetChecks m s) after ∙ stop (refusal (cutSheetChecks m s)) _ (λ q. z (j .refused ∙ q)))) z
-        (λ q. let g = gives (λ n. not (eqb n 14)) rebuildNumbers refl (cutSheetChecks m s) (sheets-numbers m s) in eqb-false r 14 (not-true _ (rw (j .refused) g)) q)
+        (λ q. let g = gives (λ n. not (eqb n 14)) sheetsNumbers refl (cutSheetChecks m s) (sheets-numbers m s) in eqb-false r 14 (not-true _ (rw (j .refused) g)) q)
 
     module _ (z : r ≡ 0) where
       left : refusal (replayChecks m s log rows) ≡ refusal after

@@ -27,7 +27,7 @@ use Rattle.blocks.specs.Flat.{cutPlace}
 use Rattle.run.specs.Listing.{listed, rowPlace}
 use Rattle.refining.proofs.CutListLaws.{listed-length}
 use Rattle.running.specs.declared.Answer.{Answer}
-use Rattle.running.specs.declared.Answer.the-variants.{Refused}
+use Rattle.running.specs.declared.Answer.the-variants.{Plan, NoPlan, Open, Refused}
 use Rattle.running.specs.Running as running
 use Rattle.running.specs.Running.{roomChecks, runChecks, told, outcome, made}
 use Rattle.running.proofs.RowLaws.{three}
@@ -59,6 +59,14 @@ module _ (t : Task) (blocks : ℕ) where
   rows-few room (plan ss) h short = let q = short ss refl in omega arith
   rows-few room noPlan h short = omega arith
   rows-few room («open» e) h short = omega arith
+
+-- an answer has no more rows than there can be blocks
+pub few-rows : (a : Answer) → Counted a → rowCount a ≤ limits .blocks
+unfolding Counted rowCount
+few-rows (Plan cost steps blocks) h = h .2
+few-rows (NoPlan blocks) h = omega arith
+few-rows (Open estimate blocks) h = omega arith
+few-rows (Refused n) h = omega arith
 
 -- ---- lists of other lengths are judged alike where for every room that there is they have the places
 module _ (s : List ℕ) (room : ℕ) (c r c′ r′ : List ℕ) where

@@ -11,7 +11,7 @@ ghost use Rattle.run.specs.Listing.{listed, rowPlace};
 ghost use Rattle.walk.specs.Walking.{pathSteps};
 ghost use Rattle.refining.specs.Refining.{answerOf, blocksTold, KnownEnd, StepsFit};
 ghost use Rattle.running.specs.Running.{Costed, PathCosts, roomChecks, told, Runs};
-ghost use Rattle.running.specs.Counts.{cutValueCount, rowValueCount, Counted};
+ghost use Rattle.running.specs.Counts.{cutValueCount, rowCount, rowValueCount, Counted};
 use refining::Ended;
 use refining::refine;
 use task::Costs;
@@ -119,7 +119,7 @@ pub fn run(sheet: &[u8], room: u32, cuts: &mut [u32], rows: &mut [u32]) -> Answe
     tell(ended, &path, &cost, rows)
 }
 
-// How many values an answer's cuts and rows take in the lists.
+// How many rows an answer has, and how many values its cuts and rows take in the lists.
 impl Answer {
     // There is one cut less than blocks.
     pub fn cut_values(self) -> usize
@@ -142,16 +142,15 @@ impl Answer {
     }
 
     // A plan has a row for each step.
-    pub fn row_values(self) -> usize
-        requires { ⌜ Counted self ⌝ }
-        ensures { λ r. ⌜ r ≡ rowValueCount self ⌝ }
+    pub fn row_count(self) -> usize
+        ensures { λ r. ⌜ r ≡ rowCount self ⌝ }
     {
         match self {
             Answer::Plan {
                 cost: _,
                 steps,
                 blocks: _,
-            } => steps * 3,
+            } => steps,
             Answer::NoPlan { blocks: _ } => 0,
             Answer::Open {
                 estimate: _,
@@ -159,5 +158,12 @@ impl Answer {
             } => 0,
             Answer::Refused(_) => 0,
         }
+    }
+
+    pub fn row_values(self) -> usize
+        requires { ⌜ Counted self ⌝ }
+        ensures { λ r. ⌜ r ≡ rowValueCount self ⌝ }
+    {
+        self.row_count() * 3
     }
 }

@@ -1,12 +1,11 @@
 use native.Mathlib.Omega.{arith}
-use mathlib.Core.Path.{refl}
 use Rattle.lines.proofs.PrintedLaws.{counted, rows-go, lines-put}
 use borrow.Author.Needs.{needs}
 use Rattle.lines.proofs.put_run.Statement.{statement}
 use Rattle.lines.proofs.put_run.Tie as tie
 use Rattle.lines.proofs.put_run.Reads as reads
 use Rattle.lines.proofs.put_run.Lts as lts
-use Rattle.running.proofs.Answer.row_values.Reads as row-values-reads
+use Rattle.running.proofs.Answer.row_count.Reads as row-count-reads
 use Rattle.lines.proofs.put_first_line.Reads as put-first-line-reads
 use Rattle.lines.proofs.put_rows.Reads as put-rows-reads
 use Rattle.running.proofs.run.Reads as run-reads
@@ -22,22 +21,17 @@ put-first-line-requires c κs =
     let p = entry .pre in
     (counted (g .sheet .now) (g .room) (g .cuts .now) (g .rows .now) (p .0, p .1) (run-at .run .ensures), omega (arith, p .2))
 
-row-values-requires : tie.Need-row-values-requires
-row-values-requires c κs =
-    let run-at = c .before .before .before .before .before .before .before .before in
-    let entry = run-at .before .before .before .before .before .before .before in
-    let g = entry .args in
-    let p = entry .pre in
-    counted (g .sheet .now) (g .room) (g .cuts .now) (g .rows .now) (p .0, p .1) (run-at .run .ensures)
+row-count-requires : tie.Need-row-count-requires
+row-count-requires c κs = search needs
 
 put-rows-requires : tie.Need-put-rows-requires
 put-rows-requires c κs =
-    let put-first-line-at = c .before .before .before .before .before in
+    let put-first-line-at = c .before .before .before .before in
     let run-at = put-first-line-at .before .before .before .before .before .before in
     let entry = run-at .before .before .before .before .before .before .before in
     let g = entry .args in
     let p = entry .pre in
-    rows-go (g .sheet .now) (g .room) (g .cuts .now) (g .rows .now) (p .0, p .1) (run-at .run .ensures) (c .before .before .row-values .ensures) refl (p .2)
+    rows-go (g .sheet .now) (g .room) (g .cuts .now) (g .rows .now) (p .0, p .1) (run-at .run .ensures) (c .before .row-count .ensures) (p .2)
     (put-first-line-at .put-first-line .ensures)
 
 same-length : tie.Need-same-length
@@ -51,13 +45,13 @@ same-length-3 c = search needs
 
 returns : tie.Need-returns
 returns c =
-    let row-values-at = c .before .before .before .before .before in
-    let put-first-line-at = row-values-at .before .before .before in
+    let row-count-at = c .before .before .before .before in
+    let put-first-line-at = row-count-at .before .before .before in
     let run-at = put-first-line-at .before .before .before .before .before .before in
     let entry = run-at .before .before .before .before .before .before .before in
     let g = entry .args in
     let p = entry .pre in
-    lines-put (g .sheet .now) (g .room) (g .cuts .now) (g .rows .now) (p .0, p .1) (run-at .run .ensures) (row-values-at .row-values .ensures) refl
+    lines-put (g .sheet .now) (g .room) (g .cuts .now) (g .rows .now) (p .0, p .1) (run-at .run .ensures) (row-count-at .row-count .ensures)
     (put-first-line-at .put-first-line .ensures) (c .before .before .put-rows .ensures)
 
 pub put-run-spec : {M : Type 1} → statement M
@@ -66,7 +60,7 @@ put-run-spec =
     (tie.spec
     run-requires
     put-first-line-requires
-    row-values-requires
+    row-count-requires
     put-rows-requires
     same-length
     same-length-2

@@ -1,48 +1,15 @@
-use mathlib.Core.Path.{refl}
-use Rattle.running.specs.Counts.{rowCount}
 use borrow.Author.Needs.{needs}
 use Rattle.rows.proofs.row_count.Statement.{statement}
 use Rattle.rows.proofs.row_count.Tie as tie
 use Rattle.rows.proofs.row_count.Reads as reads
 use Rattle.rows.proofs.row_count.Lts as lts
+use Rattle.running.proofs.Answer.row_count.Reads as row-count-reads
 
-enum-known-answer : tie.Need-enum-known-answer
-enum-known-answer c = search needs
-
-enum-told : tie.Need-enum-told
-enum-told c = search needs
-
-enum-told-2 : tie.Need-enum-told-2
-enum-told-2 c = search needs
-
-enum-told-3 : tie.Need-enum-told-3
-enum-told-3 c = search needs
+row-count-requires : tie.Need-row-count-requires
+row-count-requires c κs = search needs
 
 returns : tie.Need-returns
-unfolding rowCount
-returns c = let e = c .before .answer .given .1 in rw e refl
-
-returns-2 : tie.Need-returns-2
-unfolding rowCount
-returns-2 c = let e = c .enum-told .given .1 in rw e refl
-
-returns-3 : tie.Need-returns-3
-unfolding rowCount
-returns-3 c = let e = c .enum-told2 .given .1 in rw e refl
-
-returns-4 : tie.Need-returns-4
-unfolding rowCount
-returns-4 c = let e = c .enum-told3 .given .1 in rw e refl
+returns c = c .row-count .ensures
 
 pub row-count-spec : {M : Type 1} → statement M
-row-count-spec =
-    tie.close
-    (tie.spec
-    enum-known-answer
-    enum-told
-    enum-told-2
-    enum-told-3
-    returns
-    returns-2
-    returns-3
-    returns-4)
+row-count-spec = tie.close (tie.spec row-count-requires returns)

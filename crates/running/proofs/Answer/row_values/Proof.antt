@@ -1,53 +1,23 @@
-use mathlib.Core.Path.{refl}
-use Rattle.running.specs.Counts.{rowCount, rowValueCount, Counted}
+use Prim.Native.Nat.{ℕ, _*_}
+use mathlib.Core.Path.{ap}
+use Rattle.running.specs.Counts.{rowValueCount}
+use Rattle.running.proofs.CountLaws.{few-rows}
 use borrow.Author.Needs.{needs}
 use Rattle.running.proofs.Answer.row_values.Statement.{statement}
 use Rattle.running.proofs.Answer.row_values.Tie as tie
 use Rattle.running.proofs.Answer.row_values.Reads as reads
 use Rattle.running.proofs.Answer.row_values.Lts as lts
+use Rattle.running.proofs.Answer.row_count.Reads as row-count-reads
 
-enum-known-self : tie.Need-enum-known-self
-enum-known-self c = search needs
+row-count-requires : tie.Need-row-count-requires
+row-count-requires c κs = search needs
 
 mul-result : tie.Need-mul-result
-unfolding Counted
-mul-result c = let e = c .before .self .given .1 in let k = rw e at (c .before .before .before .pre) in let h = k .2 in search (needs, h)
-
-enum-told : tie.Need-enum-told
-enum-told c = search needs
-
-enum-told-2 : tie.Need-enum-told-2
-enum-told-2 c = search needs
-
-enum-told-3 : tie.Need-enum-told-3
-enum-told-3 c = search needs
+mul-result c = let h = few-rows _ (c .before .pre) in let e = c .row-count .ensures in search (needs, h, e)
 
 returns : tie.Need-returns
-unfolding rowValueCount rowCount
-returns c = let e = c .before .self .given .1 in rw e refl
-
-returns-2 : tie.Need-returns-2
-unfolding rowValueCount rowCount
-returns-2 c = let e = c .enum-told .given .1 in rw e refl
-
-returns-3 : tie.Need-returns-3
-unfolding rowValueCount rowCount
-returns-3 c = let e = c .enum-told2 .given .1 in rw e refl
-
-returns-4 : tie.Need-returns-4
-unfolding rowValueCount rowCount
-returns-4 c = let e = c .enum-told3 .given .1 in rw e refl
+unfolding rowValueCount
+returns c = ap (λ (k : ℕ). k * 3) (c .row-count .ensures)
 
 pub row-values-spec : {M : Type 1} → statement M
-row-values-spec =
-    tie.close
-    (tie.spec
-    enum-known-self
-    mul-result
-    enum-told
-    enum-told-2
-    enum-told-3
-    returns
-    returns-2
-    returns-3
-    returns-4)
+row-values-spec = tie.close (tie.spec row-count-requires mul-result returns)
