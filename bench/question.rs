@@ -3,7 +3,7 @@
 //     rustc -O --out-dir target/bench bench/question.rs && target/bench/question
 // With the archive that `rt staticlib historian` writes:
 //     rustc -O --cfg library --out-dir target/bench bench/question.rs -L target/staticlib -lhistorian && target/bench/question
-// Before there is one: in a copy of the repository, a crate `ask` (in crates.txt with the crates of `asking`, and `asking`) of
+// Before there is one: in a copy of the repository, a crate `ask` (in crates.txt as `ask: asking`) of
 //     use asking::Asked;
 //     use asking::question;
 //     #[no_mangle]

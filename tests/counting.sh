@@ -25,6 +25,24 @@ make_scratch() {
     trap 'rm -rf "$scratch"' EXIT
 }
 
+# below CRATE: on one line all that a crate rests on, of the repository in the order of crates.txt, then of the kit. A line of crates.txt has what the crate itself names, and no more.
+below() {
+    CRATE=$1 awk -F : '
+        { name[NR] = $1; uses[NR] = $2 }
+        END {
+            reached[ENVIRON["CRATE"]] = more = 1
+            while (more)
+                for (i = more = 0; ++i <= NR;)
+                    if (name[i] in reached)
+                        for (k = split(uses[i], used, " "); k; k--)
+                            if (!(used[k] in reached)) reached[used[k]] = more = 1
+            delete reached[ENVIRON["CRATE"]]
+            for (i = 1; i <= NR; i++)
+                if (name[i] in reached) { printf "%s ", name[i]; delete reached[name[i]] }
+            for (i in reached) printf "%s ", i
+        }' crates.txt
+}
+
 # make_program NAME SOURCE LIBRARY: makes $scratch a repository of its own, of the product's crates and a program that calls the library.
 make_program() {
     local crate
@@ -34,7 +52,7 @@ make_program() {
     done
     cp "$2" "$scratch/crates/$1/src/main.rt"
     cp crates.txt "$scratch/"
-    sed -n "s/^$3: \(.*\)/$1: \1 $3 io libc/p" crates.txt >>"$scratch/crates.txt"
+    echo "$1: $(below "$3") $3 io libc" >>"$scratch/crates.txt"
 }
 
 # Bytes as hexadecimal digits, and back.
