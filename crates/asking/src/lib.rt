@@ -36,7 +36,8 @@ pub enum Asked {
 // 11 where the bytes are no states of the columns, else 0.
 pub fn judge_states(sizes: &[u8; Model::COLUMNS], columns: usize, states: &[u8]) -> u8
     requires { ⌜ (1 ≤ columns) × (columns ≤ limits .columns) ⌝ }
-    ensures { λ r. ⌜ ((t : Task) → columnCount t ≡ columns → ((j : ℕ) → j < columns → sizeOf t (column j) ≡ getD (now (sizes .entry)) j 0) → r ≡ cond (badStates t (now (states .entry))) 11 0) ⌝ }
+    ensures { λ r. ⌜ ((t : Task) → columnCount t ≡ columns → ((j : ℕ) → j < columns → sizeOf t (column j) ≡ getD (now (sizes .entry)) j 0) → r
+        ≡ cond (badStates t (now (states .entry))) 11 0) ⌝ }
 {
     if states.len() % columns != 0 {
         return 11;
@@ -71,7 +72,10 @@ fn read_state(states: &[u8], columns: usize, k: usize) -> State
 
 // The cost from a state's block on, from a table of distances.
 fn find_cost(count: usize, cuts: &[u32], dist: &Distances, state: State) -> u32
-    requires { ⌜ (count < limits .blocks) × (count * 3 ≤ length (now cuts)) × ((i : ℕ) → i < count → (getD (now cuts) (i * 3 + 1) 0 < limits .columns) × (getD state (getD (now cuts) (i * 3 + 1) 0) (position 0) .0 < limits .positions)) × ((a : ℕ) → a ≤ count → getD (now dist) a 0 / 65536 ≤ limits .«no_way») ⌝ }
+    requires { ⌜ (count < limits .blocks) × (count * 3 ≤ length (now cuts))
+        × ((i : ℕ) → i < count → (getD (now cuts) (i * 3 + 1) 0 < limits .columns)
+        × (getD state (getD (now cuts) (i * 3 + 1) 0) (position 0) .0 < limits .positions))
+        × ((a : ℕ) → a ≤ count → getD (now dist) a 0 / 65536 ≤ limits .«no_way») ⌝ }
     ensures { λ r. ⌜ r ≡ costFound (now (dist .entry)) (now (cuts .entry)) count state ⌝ }
 {
     let b = block_of(count, cuts, state);
@@ -87,8 +91,15 @@ pub fn fill_estimates(
     states: &[u8],
     estimates: &mut [u32],
 )
-    requires { ⌜ (1 ≤ columns) × (columns ≤ limits .columns) × (count < limits .blocks) × (count * 3 ≤ length (now cuts)) × (length (now states) / columns ≤ limits .states) × (length (now states) / columns ≤ length (now estimates)) × ((i : ℕ) → i < count → getD (now cuts) (i * 3 + 1) 0 < columns) × ((i : ℕ) → i < length (now states) → getD (now states) i 0 < limits .positions) × ((a : ℕ) → a ≤ count → getD (now dist) a 0 / 65536 ≤ limits .«no_way») ⌝ }
-    ensures { λ _. ⌜ now (estimates .exit) ≡ over (tab (length (now (states .entry)) / columns) (λ k. costFound (now (dist .entry)) (now (cuts .entry)) count (wideState columns (now (states .entry)) k))) (now (estimates .entry)) ⌝ }
+    requires { ⌜ (1 ≤ columns) × (columns ≤ limits .columns) × (count < limits .blocks) × (count * 3 ≤ length (now cuts))
+        × (length (now states) / columns ≤ limits .states) × (length (now states) / columns ≤ length (now estimates))
+        × ((i : ℕ) → i < count → getD (now cuts) (i * 3 + 1) 0 < columns)
+        × ((i : ℕ) → i < length (now states) → getD (now states) i 0 < limits .positions)
+        × ((a : ℕ) → a ≤ count → getD (now dist) a 0 / 65536 ≤ limits .«no_way») ⌝ }
+    ensures { λ _. ⌜ now (estimates .exit)
+        ≡ over (tab (length (now (states .entry)) / columns)
+        (λ k. costFound (now (dist .entry)) (now (cuts .entry)) count (wideState columns (now (states .entry)) k)))
+        (now (estimates .entry)) ⌝ }
 {
     let asked = states.len() / columns;
     let mut k: usize = 0;
@@ -128,8 +139,12 @@ fn measure(model: Model, count: usize, sets: &BlockSets, dist: &mut Distances)
 
 // The estimates of states, after the cuts of a part whose blocks stand in the array.
 fn answer(model: Model, part: &[u8], sets: &BlockSets, states: &[u8], estimates: &mut [u32])
-    requires { ⌜ Accepted (taskOf model) × (judgeCuts (taskOf model) (now part) ≡ 0) × Made (taskOf model) (cutOn (now part)) (model .columns) (countOf (now part)) (now sets) × (badStates (taskOf model) (now states) ≡ false) × (statesIn (taskOf model) (now states) ≤ length (now estimates)) ⌝ }
-    ensures { λ _. ⌜ now (estimates .exit) ≡ over (estimatesOf (taskOf model) (cutsNamed (cutOn (now (part .entry))) (countOf (now (part .entry)))) (now (states .entry))) (now (estimates .entry)) ⌝ }
+    requires { ⌜ Accepted (taskOf model) × (judgeCuts (taskOf model) (now part) ≡ 0)
+        × Made (taskOf model) (cutOn (now part)) (model .columns) (countOf (now part)) (now sets)
+        × (badStates (taskOf model) (now states) ≡ false) × (statesIn (taskOf model) (now states) ≤ length (now estimates)) ⌝ }
+    ensures { λ _. ⌜ now (estimates .exit)
+        ≡ over (estimatesOf (taskOf model) (cutsNamed (cutOn (now (part .entry))) (countOf (now (part .entry)))) (now (states .entry)))
+        (now (estimates .entry)) ⌝ }
 {
     let columns = model.columns;
     let count = field(part, 4, 8) as usize;

@@ -84,8 +84,13 @@ pub fn look(
     dist: &mut Distances,
     path: &mut Path,
 ) -> Seen
-    requires { ⌜ (made < limits .blocks) × (made * 3 ≤ length (now cuts)) × (steps ≤ length (now costs)) × (length (now dist) ≡ limits .blocks) × (length (now path) ≡ limits .blocks) ⌝ ∗ ⌜ Ready columns steps start (now needs) (now lands) (now goals) (now costs) made (now cuts) (now sets) ⌝ }
-    ensures { λ r. ⌜ ((t : Task) → Given t columns steps start (now (needs .entry)) (now (lands .entry)) (now (goals .entry)) (now (costs .entry)) → Made t columns made (now (cuts .entry)) (now (sets .entry)) → lookOf r (now (path .exit)) ≡ run.look t (blocksOf t (cutsIn made (now (cuts .entry))))) ⌝ ∗ ⌜ KnownSeen steps r (now (path .exit)) × (length (now (dist .exit)) ≡ limits .blocks) × (length (now (path .exit)) ≡ limits .blocks) ⌝ }
+    requires { ⌜ (made < limits .blocks) × (made * 3 ≤ length (now cuts)) × (steps ≤ length (now costs)) × (length (now dist) ≡ limits .blocks)
+        × (length (now path) ≡ limits .blocks) ⌝
+        ∗ ⌜ Ready columns steps start (now needs) (now lands) (now goals) (now costs) made (now cuts) (now sets) ⌝ }
+    ensures { λ r. ⌜ ((t : Task) → Given t columns steps start (now (needs .entry)) (now (lands .entry)) (now (goals .entry)) (now (costs .entry))
+        → Made t columns made (now (cuts .entry)) (now (sets .entry)) → lookOf r (now (path .exit))
+        ≡ run.look t (blocksOf t (cutsIn made (now (cuts .entry))))) ⌝
+        ∗ ⌜ KnownSeen steps r (now (path .exit)) × (length (now (dist .exit)) ≡ limits .blocks) × (length (now (path .exit)) ≡ limits .blocks) ⌝ }
 {
     let count = made + 1;
     fill_distances(
@@ -159,8 +164,13 @@ fn cut_on(
     dist: &mut Distances,
     path: &mut Path,
 ) -> Ended
-    requires { ⌜ (spare < limits .blocks) × (spare * 3 ≤ length (now cuts)) × (steps ≤ length (now costs)) × (length (now sets) ≡ limits .blocks * limits .columns) × (length (now dist) ≡ limits .blocks) × (length (now path) ≡ limits .blocks) ⌝ ∗ ⌜ Ready columns steps start (now needs) (now lands) (now goals) (now costs) 0 (now cuts) (now sets) ⌝ }
-    ensures { λ r. ⌜ ((t : Task) → Given t columns steps start (now (needs .entry)) (now (lands .entry)) (now (goals .entry)) (now (costs .entry)) → Made t columns 0 (now (cuts .entry)) (now (sets .entry)) → RunEnds (refine t spare []) r steps (now (cuts .entry)) (now (cuts .exit)) (now (path .exit))) ⌝ ∗ ⌜ length (now (path .exit)) ≡ limits .blocks ⌝ }
+    requires { ⌜ (spare < limits .blocks) × (spare * 3 ≤ length (now cuts)) × (steps ≤ length (now costs))
+        × (length (now sets) ≡ limits .blocks * limits .columns) × (length (now dist) ≡ limits .blocks) × (length (now path) ≡ limits .blocks) ⌝
+        ∗ ⌜ Ready columns steps start (now needs) (now lands) (now goals) (now costs) 0 (now cuts) (now sets) ⌝ }
+    ensures { λ r. ⌜ ((t : Task) → Given t columns steps start (now (needs .entry)) (now (lands .entry)) (now (goals .entry)) (now (costs .entry))
+        → Made t columns 0 (now (cuts .entry)) (now (sets .entry))
+        → RunEnds (refine t spare []) r steps (now (cuts .entry)) (now (cuts .exit)) (now (path .exit))) ⌝
+        ∗ ⌜ length (now (path .exit)) ≡ limits .blocks ⌝ }
 {
     let mut made: usize = 0;
     loop {
@@ -193,7 +203,8 @@ fn cut_on(
 // A run with room for so many blocks besides the first: its cuts go into the list, and the steps of its plan into the path.
 pub fn refine(model: Model, spare: usize, cuts: &mut [u32], path: &mut Path) -> Ended
     requires { ⌜ Accepted (taskOf model) × (spare < limits .blocks) × (spare * 3 ≤ length (now cuts)) × (length (now path) ≡ limits .blocks) ⌝ }
-    ensures { λ r. ⌜ RunEnds (refine (taskOf model) spare []) r (model .steps) (now (cuts .entry)) (now (cuts .exit)) (now (path .exit)) ⌝ ∗ ⌜ length (now (path .exit)) ≡ limits .blocks ⌝ }
+    ensures { λ r. ⌜ RunEnds (refine (taskOf model) spare []) r (model .steps) (now (cuts .entry)) (now (cuts .exit)) (now (path .exit)) ⌝
+        ∗ ⌜ length (now (path .exit)) ≡ limits .blocks ⌝ }
 {
     let columns = model.columns;
     let steps = model.steps;

@@ -61,7 +61,8 @@ fn judge_room(room: u32, cuts: &[u32], rows: &[u32]) -> u8
 // Puts the rows of a path into a list, from the last to the first, and returns the cost of the path.
 fn fill_rows(count: usize, path: &Path, cost: &Costs, list: &mut [u32]) -> u32
     requires { ⌜ (count < limits .blocks) × (count * 3 ≤ length (now list)) × ((i : ℕ) → i < count → getD (now path) i 0 < limits .steps) ⌝ }
-    ensures { λ r. ⌜ ((t : Task) → Costed t count (now (path .entry)) (now (cost .entry)) → (r ≡ costs t (pathSteps count (now (path .entry)))) × (now (list .exit) ≡ over (listed rowPlace (rows t (pathSteps count (now (path .entry))))) (now (list .entry)))) ⌝ }
+    ensures { λ r. ⌜ ((t : Task) → Costed t count (now (path .entry)) (now (cost .entry)) → (r ≡ costs t (pathSteps count (now (path .entry))))
+        × (now (list .exit) ≡ over (listed rowPlace (rows t (pathSteps count (now (path .entry))))) (now (list .entry)))) ⌝ }
 {
     let mut left: u32 = 0;
     let mut i = count;
@@ -81,7 +82,9 @@ fn fill_rows(count: usize, path: &Path, cost: &Costs, list: &mut [u32]) -> u32
 // What a run that has ended answers, with the rows of its plan put into the list.
 fn tell(ended: Ended, path: &Path, cost: &Costs, list: &mut [u32]) -> Answer
     requires { ⌜ KnownEnd (limits .steps) ended (now path) × StepsFit ended (length (now list)) ⌝ }
-    ensures { λ r. ⌜ ((t : Task) → PathCosts t ended (now (path .entry)) (now (cost .entry)) → (r ≡ told t (blocksTold ended) (answerOf ended (now (path .entry)))) × (now (list .exit) ≡ over (listed rowPlace (rowsOf t (answerOf ended (now (path .entry))))) (now (list .entry)))) ⌝ }
+    ensures { λ r. ⌜ ((t : Task) → PathCosts t ended (now (path .entry)) (now (cost .entry))
+        → (r ≡ told t (blocksTold ended) (answerOf ended (now (path .entry))))
+        × (now (list .exit) ≡ over (listed rowPlace (rowsOf t (answerOf ended (now (path .entry))))) (now (list .entry)))) ⌝ }
 {
     match ended {
         Ended::Plan(steps, blocks) => {

@@ -228,7 +228,8 @@ pub fn back_cut(
     here: &ColumnSets,
 ) -> Cut
     requires { ⌜ (columns ≤ limits .columns) × (a .0 < limits .blocks) × (s .0 < limits .steps) × (b .0 < limits .blocks) ⌝ }
-    ensures { λ r. ⌜ r ≡ cutBy columns (now (sets .entry)) (now (here .entry)) a (backRow (now (needs .entry)) (now (lands .entry)) (now (sets .entry)) (s .0) (b .0)) ⌝ }
+    ensures { λ r. ⌜ r ≡ cutBy columns (now (sets .entry)) (now (here .entry)) a
+        (backRow (now (needs .entry)) (now (lands .entry)) (now (sets .entry)) (s .0) (b .0)) ⌝ }
 {
     let mut wanted = [0u32; Model::COLUMNS];
     fill_back_wanted(s, b, needs, lands, sets, &mut wanted);

@@ -51,8 +51,11 @@ fn hop(
     dist: &Distances,
     here: &mut ColumnSets,
 ) -> Turn
-    requires { ⌜ (columns ≤ limits .columns) × (steps ≤ limits .steps) × (steps ≤ length (now costs)) × (count ≤ limits .blocks) × (a .0 < count) × (length (now here) ≡ limits .columns) ⌝ }
-    ensures { λ r. ⌜ r ≡ turnBy columns steps count (now (needs .entry)) (now (lands .entry)) (now (costs .entry)) (now (sets .entry)) (now (dist .entry)) a (now (here .entry)) ⌝ ∗ ⌜ now (here .exit) ≡ standsAfter columns (now (lands .entry)) (now (here .entry)) r ⌝ ∗ ⌜ length (now (here .exit)) ≡ limits .columns ⌝ }
+    requires { ⌜ (columns ≤ limits .columns) × (steps ≤ limits .steps) × (steps ≤ length (now costs)) × (count ≤ limits .blocks) × (a .0 < count)
+        × (length (now here) ≡ limits .columns) ⌝ }
+    ensures { λ r. ⌜ r ≡ turnBy columns steps count (now (needs .entry)) (now (lands .entry)) (now (costs .entry)) (now (sets .entry))
+        (now (dist .entry)) a (now (here .entry)) ⌝ ∗ ⌜ now (here .exit) ≡ standsAfter columns (now (lands .entry)) (now (here .entry)) r ⌝
+        ∗ ⌜ length (now (here .exit)) ≡ limits .columns ⌝ }
 {
     let next = trace::next_hop(columns, steps, count, a, needs, lands, costs, sets, dist);
     let Next::To(s, b) = next else {
@@ -102,8 +105,18 @@ pub fn follow(
     here: &mut ColumnSets,
     path: &mut Path,
 ) -> Found
-    requires { ⌜ (columns ≤ limits .columns) × (steps ≤ limits .steps) × (steps ≤ length (now costs)) × (count ≤ limits .blocks) × (from .0 < count) × (getD (now dist) (from .0) 0 % 65536 < limits .blocks) × (length (now here) ≡ limits .columns) × (length (now path) ≡ limits .blocks) ⌝ }
-    ensures { λ r. ⌜ outcome r (now (here .exit)) (now (path .exit)) ≡ followBy columns steps count (now (needs .entry)) (now (lands .entry)) (now (goals .entry)) (now (costs .entry)) (now (sets .entry)) (now (dist .entry)) (getD (now (dist .entry)) (from .0) 0 % 65536) 0 from (now (here .entry)) (now (path .entry)) ⌝ ∗ ⌜ Known steps r (now (path .exit)) × (length (now (here .exit)) ≡ limits .columns) × (length (now (path .exit)) ≡ limits .blocks) ⌝ ∗ ⌜ ((t : Task) (cs : List Cut) (x : State) (d : Distance) → Begins t cs x d columns steps count from (now (needs .entry)) (now (lands .entry)) (now (goals .entry)) (now (costs .entry)) (now (sets .entry)) (now (dist .entry)) (now (here .entry)) → seen (d .cost) r (now (path .exit)) ≡ walked t columns count (now (sets .entry)) x from d) ⌝ }
+    requires { ⌜ (columns ≤ limits .columns) × (steps ≤ limits .steps) × (steps ≤ length (now costs)) × (count ≤ limits .blocks) × (from .0 < count)
+        × (getD (now dist) (from .0) 0 % 65536 < limits .blocks) × (length (now here) ≡ limits .columns)
+        × (length (now path) ≡ limits .blocks) ⌝ }
+    ensures { λ r. ⌜ outcome r (now (here .exit)) (now (path .exit))
+        ≡ followBy columns steps count (now (needs .entry)) (now (lands .entry)) (now (goals .entry)) (now (costs .entry)) (now (sets .entry))
+        (now (dist .entry)) (getD (now (dist .entry)) (from .0) 0 % 65536) 0 from (now (here .entry)) (now (path .entry)) ⌝
+        ∗ ⌜ Known steps r (now (path .exit)) × (length (now (here .exit)) ≡ limits .columns)
+        × (length (now (path .exit)) ≡ limits .blocks) ⌝
+        ∗ ⌜ ((t : Task) (cs : List Cut) (x : State) (d : Distance)
+        → Begins t cs x d columns steps count from (now (needs .entry)) (now (lands .entry)) (now (goals .entry)) (now (costs .entry))
+        (now (sets .entry)) (now (dist .entry)) (now (here .entry)) → seen (d .cost) r (now (path .exit))
+        ≡ walked t columns count (now (sets .entry)) x from d) ⌝ }
 {
     let a0 = from.0 as usize;
     let n = (dist[a0] % 65536) as usize;

@@ -103,11 +103,10 @@ loop-again c =
     let loop-at = loop-test-at .before in
     let entry = loop-at .before .before .before in
     let g = entry .args in
-    let l = loop-at .loop in
-    (
+    let l = loop-at .loop in (
       omega (arith, loop-test-at .loop-test .taken),
       again (g .costs .now) (g .log .now) (g .estimates .now) (l .i) (g .rows .now) (l .inv .1) (tenths-at .tenths .ensures .0)
-      (c .before .put-row .ensures),
+          (c .before .put-row .ensures),
     )
 
 -- src/lib.rt:74:1

@@ -93,14 +93,13 @@ replay-number-requires c κs =
     let usable-places2-at = get-values-at .before .before in
     let usable-places-at = usable-places2-at .before in
     let entry = usable-places-at .before .before .before .before .before .before in
-    let g = entry .args in
-    (
+    let g = entry .args in (
       rows-few (g .log .now) (g .steps .now) (usable-places-at .usable-places .result) (get-values-at .get-values .ensures) (g .model .now) (g .sheet .now)
-      (g .rows .now) (g .list .now) (usable-places2-at .usable-places2 .result) (entry .pre .1) (usable-places2-at .usable-places2 .ensures)
-      (replay-at .replay .ensures),
+          (g .rows .now) (g .list .now) (usable-places2-at .usable-places2 .result) (entry .pre .1) (usable-places2-at .usable-places2 .ensures)
+          (replay-at .replay .ensures),
       row-few (g .log .now) (g .steps .now) (usable-places-at .usable-places .result) (get-values-at .get-values .ensures) (g .model .now) (g .sheet .now)
-      (g .rows .now) (g .list .now) (usable-places2-at .usable-places2 .result) (entry .pre .1) (usable-places2-at .usable-places2 .ensures)
-      (replay-at .replay .ensures) (omega (arith, at-most _ _ (usable-places-at .usable-places .ensures))),
+          (g .rows .now) (g .list .now) (usable-places2-at .usable-places2 .result) (entry .pre .1) (usable-places2-at .usable-places2 .ensures)
+          (replay-at .replay .ensures) (omega (arith, at-most _ _ (usable-places-at .usable-places .ensures))),
     )
 
 same-length : tie.Need-same-length
