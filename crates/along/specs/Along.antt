@@ -6,7 +6,7 @@ use Prim.Native.Nat.{ℕ, zero, suc, _+_, _*_, _/_, _≤_, _<_}
 use lib.Dec.{eqb, ltb}
 use lib.ListN.{length, getD}
 use Rattle.task.specs.Loops.{first, when}
-use Rattle.task.specs.Sizes.{limits}
+use Rattle.task.specs.Sizes.{limits, tenth}
 use Rattle.blocks.specs.Blocks.{PositionSet, common, isEmpty}
 use Rattle.standing.specs.Standing.{takesBy, takenBy}
 
@@ -42,7 +42,7 @@ blockBy cuts here (suc i) = cond (sendsOn cuts here i (blockBy cuts here i)) (su
 
 -- the cost from there on, in a table of distances
 unfoldable pub costBy : ℕ → List ℕ → List ℕ → List PositionSet → ℕ
-costBy count cuts dist here = getD dist (blockBy cuts here count) 0 / 65536
+costBy count cuts dist here = getD dist (blockBy cuts here count) 0 / tenth
 
 -- the same after the first i steps of a log
 unfoldable pub costAfter : ℕ → List ℕ → ℕ → List ℕ → List ℕ → List ℕ → List PositionSet → ℕ → ℕ
@@ -53,4 +53,4 @@ pub record Cuts (count : ℕ) (cuts dist : List ℕ) : Type 0 where
   pub few : count < limits .blocks
   pub listed : count * 3 ≤ length cuts
   pub there : (i : ℕ) → i < count → getD cuts (i * 3 + 1) 0 < limits .columns
-  pub costs : (a : ℕ) → a ≤ count → getD dist a 0 / 65536 ≤ limits .«no_way»
+  pub costs : (a : ℕ) → a ≤ count → getD dist a 0 / tenth ≤ limits .«no_way»

@@ -86,7 +86,7 @@ fn cost_here(count: usize, cuts: &[u32], dist: &Distances, here: &ColumnSets) ->
     ensures { λ r. ⌜ r ≡ costBy count (now (cuts .entry)) (now (dist .entry)) (now (here .entry)) ⌝ }
 {
     let b = block_here(count, cuts, here);
-    (dist[b.0 as usize] / 65536) as u32
+    (dist[b.0 as usize] / Model::TENTH) as u32
 }
 
 // The estimates along a log: one before each row, and one after the last.

@@ -10,7 +10,7 @@ use lib.ListN.{length, getD, take}
 use lib.Seq.{take-append-seam}
 use borrow.Author.Tests.{ltb-true, ltb-false}
 use Rattle.task.specs.Loops.{all, tab, over}
-use Rattle.task.specs.Sizes.{limits}
+use Rattle.task.specs.Sizes.{limits, tenth}
 use Rattle.task.specs.declared.Column.{Column}
 use Rattle.task.specs.Task.{Task, State, Accepted, column, position, columnCount, sizeOf, at, isState}
 use Rattle.task.proofs.LoopLaws.{all-at, tab-length, tab-at, tab-ext}
@@ -81,7 +81,7 @@ module _ (t : Task) (v : Accepted t) (l : List ℕ) (count : ℕ) (ok : accepted
       let x = wideState n bytes k in
       let f : followed l x count ≡ followed l (stateIn n bytes k) count =
       sym (followed-take l x n count (cut-columns t v l count ok)) ∙ ap (λ (y : State). followed l y count) (wide-front bytes k) in
-      ap (λ (a : ℕ). getD dist a 0 / 65536) f ∙ cost-found t v l count ok few old dist d (stateIn n bytes k) (state-good t bytes good k h)
+      ap (λ (a : ℕ). getD dist a 0 / tenth) f ∙ cost-found t v l count ok few old dist d (stateIn n bytes k) (state-good t bytes good k h)
 
   -- and so all of them
   pub estimates-found : (old dist : List ℕ) → dist ≡ codedOver t (blocksOf t (cutsIn count l)) (count + 1) old → (bytes : List ℕ) → badStates t bytes ≡ false

@@ -6,7 +6,7 @@ use mathlib.Core.Bool.{true, false}
 use mathlib.Core.List.{List}
 use lib.ListN.{length, getD}
 use Rattle.task.specs.Loops.{tab, over}
-use Rattle.task.specs.Sizes.{limits}
+use Rattle.task.specs.Sizes.{limits, tenth}
 use Rattle.task.specs.Task.{Task, Accepted, block, columnCount}
 use Rattle.task.proofs.LoopLaws.{over-at}
 use Rattle.fields.specs.Judging.{each}
@@ -49,7 +49,7 @@ module _ (t : Task) {columns : ℕ} (wide : columnCount t ≡ columns) (v : Acce
     pub coded : dist ≡ codedOver t (blocksOf t (cutsIn count cuts)) (count + 1) dist₀
     coded = rw stands at d
 
-    pub dist-small : (a : ℕ) → a ≤ count → getD dist a 0 / 65536 ≤ limits .«no_way»
+    pub dist-small : (a : ℕ) → a ≤ count → getD dist a 0 / tenth ≤ limits .«no_way»
     unfolding codedOver
     dist-small a h =
         let bs = blocksOf t (cutsIn count cuts) in

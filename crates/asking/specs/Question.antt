@@ -8,7 +8,7 @@ use lib.Dec.{eqb, ltb}
 use lib.ListN.{length, getD}
 use Rattle.task.specs.declared.Position.{Position}
 use Rattle.task.specs.Loops.{all, tab, over}
-use Rattle.task.specs.Sizes.{limits}
+use Rattle.task.specs.Sizes.{limits, tenth}
 use Rattle.task.specs.Task.{Task, State, column, position, columnCount, sizeOf}
 use Rattle.fields.specs.Judging.{Check, check, refusal, unlessRefused}
 use Rattle.sheets.specs.LentTables.{tooFew}
@@ -33,7 +33,7 @@ wideState n bytes k = over (stateIn n bytes k) (unused (limits .columns) (positi
 
 -- the cost of the block that a state's cuts lead to, in a table of distances
 unfoldable pub costFound : List ℕ → List ℕ → ℕ → State → ℕ
-costFound dist cuts count x = getD dist (followed cuts x count) 0 / 65536
+costFound dist cuts count x = getD dist (followed cuts x count) 0 / tenth
 
 -- how many states the bytes hold
 unfoldable pub statesIn : Task → List ℕ → ℕ

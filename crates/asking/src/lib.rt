@@ -4,7 +4,7 @@ ghost use mathlib.Core.Bool.{false, cond};
 ghost use Prim.Native.Nat.{ℕ, _+_, _*_, _/_, _≤_, _<_};
 ghost use lib.ListN.{length, getD};
 ghost use Rattle.task.specs.Loops.{tab, over};
-ghost use Rattle.task.specs.Sizes.{limits};
+ghost use Rattle.task.specs.Sizes.{limits, tenth};
 ghost use Rattle.task.specs.Tables.{taskOf};
 ghost use Rattle.task.specs.Task.{Task, Accepted, column, position, columnCount, sizeOf};
 ghost use Rattle.blocks.specs.Flat.{blocksIn};
@@ -75,11 +75,11 @@ fn find_cost(count: usize, cuts: &[u32], dist: &Distances, state: State) -> u32
     requires { ⌜ (count < limits .blocks) × (count * 3 ≤ length (now cuts))
         × ((i : ℕ) → i < count → (getD (now cuts) (i * 3 + 1) 0 < limits .columns)
         × (getD state (getD (now cuts) (i * 3 + 1) 0) (position 0) .0 < limits .positions))
-        × ((a : ℕ) → a ≤ count → getD (now dist) a 0 / 65536 ≤ limits .«no_way») ⌝ }
+        × ((a : ℕ) → a ≤ count → getD (now dist) a 0 / tenth ≤ limits .«no_way») ⌝ }
     ensures { λ r. ⌜ r ≡ costFound (now (dist .entry)) (now (cuts .entry)) count state ⌝ }
 {
     let b = block_of(count, cuts, state);
-    (dist[b.0 as usize] / 65536) as u32
+    (dist[b.0 as usize] / Model::TENTH) as u32
 }
 
 // One estimate for each state; places past the last stay as they are.
@@ -95,7 +95,7 @@ pub fn fill_estimates(
         × (length (now states) / columns ≤ limits .states) × (length (now states) / columns ≤ length (now estimates))
         × ((i : ℕ) → i < count → getD (now cuts) (i * 3 + 1) 0 < columns)
         × ((i : ℕ) → i < length (now states) → getD (now states) i 0 < limits .positions)
-        × ((a : ℕ) → a ≤ count → getD (now dist) a 0 / 65536 ≤ limits .«no_way») ⌝ }
+        × ((a : ℕ) → a ≤ count → getD (now dist) a 0 / tenth ≤ limits .«no_way») ⌝ }
     ensures { λ _. ⌜ now (estimates .exit)
         ≡ over (tab (length (now (states .entry)) / columns)
         (λ k. costFound (now (dist .entry)) (now (cuts .entry)) count (wideState columns (now (states .entry)) k)))

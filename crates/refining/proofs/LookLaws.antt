@@ -6,6 +6,7 @@ use mathlib.Core.Bool.{true}
 use mathlib.Core.List.{List}
 use mathlib.Core.Option.{Option, some, Option·getD}
 use lib.ListN.{length, getD, take}
+use Rattle.task.specs.Sizes.{limits, tenth}
 use Rattle.task.specs.declared.Block.{Block}
 use Rattle.task.specs.Loops.{tab, over}
 use Rattle.task.specs.Task.{Task, State, position, block, columnCount, isState, start}
@@ -29,7 +30,7 @@ use Rattle.walk.specs.Walking.{Begins, seen, Known, walked, pathSteps}
 use Rattle.refining.specs.Refining.{Given, Made, lookOf, toldBy, KnownSeen}
 
 -- ---- what was told of a walk
-pub told-seen : (far : ℕ) (f : Found) (path : List ℕ) → lookOf (toldBy far f) path ≡ seen (far / 65536) f path
+pub told-seen : (far : ℕ) (f : Found) (path : List ℕ) → lookOf (toldBy far f) path ≡ seen (far / tenth) f path
 unfolding toldBy lookOf seen pathSteps
 told-seen far (walk.Plan n) path = refl
 told-seen far (walk.Flaw c) path = refl
@@ -41,7 +42,7 @@ told-known far steps (walk.Flaw c) path h = tt
 
 -- ---- a look
 module _ (t : Task) {columns steps : ℕ} {x : State} {needs lands goals costs : List ℕ} (g : Given t columns steps x needs lands goals costs)
-    {made : ℕ} {cuts sets : List ℕ} (m : Made t columns made cuts sets) (few : made < 256) where
+    {made : ℕ} {cuts sets : List ℕ} (m : Made t columns made cuts sets) (few : made < limits .blocks) where
   wide : columnCount t ≡ columns
   wide = g .tables .wide
 
@@ -114,12 +115,12 @@ module _ (t : Task) {columns steps : ℕ} {x : State} {needs lands goals costs :
 
       module _ (h : n < noWay) where
         abbrev far : Distance
-        far = record { cost = n / 65536; steps = n % 65536 }
+        far = record { cost = n / tenth; steps = n % tenth }
 
         far-is : farOf (distances t bs) a ≡ some far
         far-is = sym said ∙ decoded-low n h
 
-        pub steps-small : n % 65536 < 256
+        pub steps-small : n % tenth < limits .blocks
         steps-small = let s = far-small t bs (g .task .tenths) (omega (arith, long)) a far (there .made) far-is .0 in omega arith
 
         pub begins : (here : List ℕ) {h : List ℕ} → h ≡ over (tab columns (λ j. only (getD x j (position 0)))) here

@@ -6,6 +6,7 @@ use mathlib.Core.Bool.{true}
 use mathlib.Core.List.{List, [], _∷_, _++_}
 use mathlib.Core.Option.{none}
 use lib.ListN.{length}
+use Rattle.task.specs.Sizes.{blockPlaces, limits}
 use Rattle.task.specs.Loops.{over}
 use Rattle.task.specs.Task.{Task, State, Accepted, Tenths, columnCount}
 use Rattle.fields.specs.Places.{puts}
@@ -51,16 +52,16 @@ module _ (t : Task) (columns spare : ℕ) (cuts₀ : List ℕ) where
   pub record Grown (cuts sets : List ℕ) (made : ℕ) : Type 0 where
     pub within : made ≤ spare
     pub same : length cuts ≡ length cuts₀
-    pub long : length sets ≡ 4096
+    pub long : length sets ≡ blockPlaces
     pub stand : Made t columns made cuts sets
     pub left : refine t spare [] ≡ refine t (spare - made) (cutsIn made cuts)
     pub list : cuts ≡ puts 0 (listed cutPlace (cutsIn made cuts)) cuts₀
 
-module _ (t : Task) (v : Accepted t) (columns : ℕ) (wide : columnCount t ≡ columns) (spare : ℕ) (few : spare < 256) (cuts₀ : List ℕ) (room : spare * 3 ≤ length cuts₀) where
+module _ (t : Task) (v : Accepted t) (columns : ℕ) (wide : columnCount t ≡ columns) (spare : ℕ) (few : spare < limits .blocks) (cuts₀ : List ℕ) (room : spare * 3 ≤ length cuts₀) where
   abbrev G : List ℕ → List ℕ → ℕ → Type 0
   G = Grown t columns spare cuts₀
 
-  pub grown-none : (sets : List ℕ) → length sets ≡ 4096 → Made t columns 0 cuts₀ sets → G cuts₀ sets 0
+  pub grown-none : (sets : List ℕ) → length sets ≡ blockPlaces → Made t columns 0 cuts₀ sets → G cuts₀ sets 0
   unfolding listed puts
   grown-none sets l m =
       let z : spare ≡ spare - 0 = omega arith in
@@ -150,11 +151,11 @@ module _ (t : Task) (v : Accepted t) (columns : ℕ) (wide : columnCount t ≡ c
 module _ (columns steps : ℕ) (x : State) (needs lands goals costs : List ℕ) (spare : ℕ) (cuts₀ sets₀ : List ℕ) where
   pub record Growing (cuts sets dist path : List ℕ) (made : ℕ) : Type 0 where
     pub grown : (t : Task) → Given t columns steps x needs lands goals costs → Made t columns 0 cuts₀ sets₀ → Grown t columns spare cuts₀ cuts sets made
-    pub far : length dist ≡ 256
-    pub way : length path ≡ 256
+    pub far : length dist ≡ limits .blocks
+    pub way : length path ≡ limits .blocks
 
-module _ {columns steps : ℕ} {x : State} {needs lands goals costs : List ℕ} {spare : ℕ} {cuts₀ sets₀ : List ℕ} (few : spare < 256) (room : spare * 3 ≤ length cuts₀) where
-  pub growing-none : {dist path : List ℕ} → length sets₀ ≡ 4096 → length dist ≡ 256 → length path ≡ 256 → Growing columns steps x needs lands goals costs spare cuts₀ sets₀ cuts₀ sets₀ dist path 0
+module _ {columns steps : ℕ} {x : State} {needs lands goals costs : List ℕ} {spare : ℕ} {cuts₀ sets₀ : List ℕ} (few : spare < limits .blocks) (room : spare * 3 ≤ length cuts₀) where
+  pub growing-none : {dist path : List ℕ} → length sets₀ ≡ blockPlaces → length dist ≡ limits .blocks → length path ≡ limits .blocks → Growing columns steps x needs lands goals costs spare cuts₀ sets₀ cuts₀ sets₀ dist path 0
   growing-none l d p =
       record { grown = λ t g m. grown-none t (g .task) columns (g .tables .wide) spare few cuts₀ room sets₀ l m; far = d; way = p }
 
@@ -169,7 +170,7 @@ module _ {columns steps : ℕ} {x : State} {needs lands goals costs : List ℕ} 
       pub flaw-fits : (t : Task) → Given t columns steps x needs lands goals costs → Made t columns 0 cuts₀ sets₀ → (c .block .0 < made + 1) × (c .column .0 < columns)
       flaw-fits t g m = cut-fits t (g .task) columns (g .tables .wide) spare few cuts₀ room (r .grown t g m) (flawed t g m)
 
-      pub growing-more : made < spare → {cuts′ sets′ dist′ : List ℕ} → cuts′ ≡ puts (made * 3) (cutPlace c) cuts → sets′ ≡ cutIn columns (made + 1) c sets → length dist′ ≡ 256 → length path′ ≡ 256
+      pub growing-more : made < spare → {cuts′ sets′ dist′ : List ℕ} → cuts′ ≡ puts (made * 3) (cutPlace c) cuts → sets′ ≡ cutIn columns (made + 1) c sets → length dist′ ≡ limits .blocks → length path′ ≡ limits .blocks
           → Growing columns steps x needs lands goals costs spare cuts₀ sets₀ cuts′ sets′ dist′ path′ (made + 1)
       growing-more h ec es d p =
           record {

@@ -5,7 +5,7 @@ use mathlib.Core.Bool.{true}
 use mathlib.Core.List.{List}
 use lib.ListN.{getD, take}
 use Rattle.task.specs.Loops.{over}
-use Rattle.task.specs.Sizes.{limits}
+use Rattle.task.specs.Sizes.{limits, tenth}
 use Rattle.task.specs.Task.{Task, State, Accepted, start}
 use Rattle.blocks.specs.Blocks.{accepted, blocksOf}
 use Rattle.blocks.specs.Flat.{blocksIn, cutsIn, cutPlace}
@@ -41,7 +41,7 @@ pub record Ready (columns steps : ℕ) (x : State) (needs lands goals costs : Li
 -- what a walk found, where the start's distance is that number
 unfoldable pub toldBy : ℕ → Found → Seen
 toldBy far (walk.Plan n) = Planned n
-toldBy far (walk.Flaw c) = Flaw (far / 65536) c
+toldBy far (walk.Flaw c) = Flaw (far / tenth) c
 
 -- what a look says, with the path that it left
 unfoldable pub lookOf : Seen → List ℕ → run.Look

@@ -65,7 +65,7 @@ fn told(far: u64, found: Found) -> Seen
 {
     match found {
         Found::Plan(n) => Seen::Planned(n),
-        Found::Flaw(cut) => Seen::Flaw((far / 65536) as u32, cut),
+        Found::Flaw(cut) => Seen::Flaw((far / Model::TENTH) as u32, cut),
     }
 }
 
@@ -107,7 +107,7 @@ pub fn look(
     let from = block_of(made, cuts, start);
     let at = from.0 as usize;
     let far = dist[at];
-    if Model::NO_WAY as u64 * 65536 <= far {
+    if Model::NO_WAY as u64 * Model::TENTH <= far {
         return Seen::Hopeless;
     }
     let mut here = [0u32; Model::COLUMNS];

@@ -10,7 +10,7 @@ use lib.ListN.{length, getD}
 use borrow.Author.Tests.{ltb-true, not-false}
 use Rattle.task.specs.declared.Step.{Step}
 use Rattle.task.specs.Loops.{orElse, when, first}
-use Rattle.task.specs.Sizes.{limits}
+use Rattle.task.specs.Sizes.{limits, tenth}
 use Rattle.task.specs.Task.{Task, State, Accepted, column, step, at, columnCount, stepCount, isState, start, canTake, taken}
 use Rattle.task.proofs.LoopLaws.{and-left, and-right, first-none, first-some, when-some, when-none, first-empty, or-none}
 use Rattle.blocks.specs.Blocks.{holds, isEmpty, common, only, accepted, blocksOf}
@@ -99,4 +99,4 @@ module _ (t : Task) (cuts : List ℕ) (x : State) (here : List ℕ) (stands : St
       → (old : List ℕ) {dist : List ℕ} → dist ≡ codedOver t (blocksOf t (cutsIn count cuts)) (count + 1) old → isState t x ≡ true
       → costBy count cuts dist here ≡ Option·getD (estimate t (cutsIn count cuts) x) (limits .«no_way»)
   unfolding costBy
-  cost-is v count ok few there old {dist} d is = ap (λ (a : ℕ). getD dist a 0 / 65536) (block-is count there) ∙ cost-found t v cuts count ok few old dist d x is
+  cost-is v count ok few there old {dist} d is = ap (λ (a : ℕ). getD dist a 0 / tenth) (block-is count there) ∙ cost-found t v cuts count ok few old dist d x is

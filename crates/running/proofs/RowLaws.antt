@@ -6,6 +6,7 @@ use mathlib.Core.Path.{_≡_, refl, sym, ap, ap₂, _∙_}
 use mathlib.Core.List.{List, [], _∷_}
 use lib.ListN.{length, getD, set, drop, length-set, drop-of-length-le}
 use lib.Seq.{drop-cons}
+use Rattle.task.specs.Sizes.{mostCost}
 use Rattle.task.specs.declared.Step.{Step}
 use Rattle.task.specs.Loops.{over}
 use Rattle.task.specs.Task.{Task, step, costOf, costs}
@@ -57,7 +58,7 @@ module _ (count : ℕ) (path cost list₀ : List ℕ) where
   -- the rows from row i on stand in the list
   pub record RowsFrom (list : List ℕ) (left i : ℕ) : Type 0 where
     pub within : i ≤ count
-    pub small : left + i * 65535 ≤ count * 65535
+    pub small : left + i * mostCost ≤ count * mostCost
     pub same : length list ≡ length list₀
     pub told : (t : Task) → Costed t count path cost → (left ≡ costs t (drop i steps)) × (list ≡ puts (i * 3) (listed rowPlace (rows t (drop i steps))) list₀)
 
@@ -71,7 +72,7 @@ module _ (count : ℕ) (path cost list₀ : List ℕ) where
         told = λ t a. let e : drop count steps ≡ [] = drop-of-length-le steps {i = count} (omega (arith, long)) in (rw e, rw e);
       }
 
-  pub rows-more : {list : List ℕ} {left : ℕ} (i : ℕ) {k : ℕ} → RowsFrom list left k → k ≡ i + 1 → (paid : ℕ) → (paid ≡ getD cost (getD path i 0) 0) × (paid ≤ 65535)
+  pub rows-more : {list : List ℕ} {left : ℕ} (i : ℕ) {k : ℕ} → RowsFrom list left k → k ≡ i + 1 → (paid : ℕ) → (paid ≡ getD cost (getD path i 0) 0) × (paid ≤ mostCost)
       → RowsFrom (set (set (set list (i * 3) (getD path i 0)) (i * 3 + 1) paid) (i * 3 + 2) left) (left + paid) i
   unfolding costs rows listed rowPlace puts stepIn
   rows-more {list} {left} i {k} r e paid p =

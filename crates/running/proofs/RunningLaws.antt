@@ -37,47 +37,47 @@ use Rattle.running.specs.Running as specs
 module _ (room : ℕ) (cuts rows : List ℕ) where
   pub no-room : room < 1 → 7 ≡ refusal (roomChecks room cuts rows)
   unfolding roomChecks
-  no-room h = applies 7 (outside 1 256 room) _ (below-low 1 256 room h) (λ z. omega arith)
+  no-room h = applies 7 (outside 1 (limits .blocks) room) _ (below-low 1 (limits .blocks) room h) (λ z. omega arith)
 
   module _ (some : 1 ≤ room) where
-    pub large-room : 256 < room → 7 ≡ refusal (roomChecks room cuts rows)
+    pub large-room : limits .blocks < room → 7 ≡ refusal (roomChecks room cuts rows)
     unfolding roomChecks
-    large-room h = applies 7 (outside 1 256 room) _ (above-high 1 256 room some h) (λ z. omega arith)
+    large-room h = applies 7 (outside 1 (limits .blocks) room) _ (above-high 1 (limits .blocks) room some h) (λ z. omega arith)
 
-    module _ (few : room ≤ 256) where
+    module _ (few : room ≤ limits .blocks) where
       pub few-cuts : length cuts < (room - 1) * 3 → 8 ≡ refusal (roomChecks room cuts rows)
       unfolding roomChecks
-      few-cuts h = passes 7 (outside 1 256 room) _ (inside 1 256 room some few) (applies 8 (ltb (length cuts) ((room - 1) * 3)) _ (lt-ltb (length cuts) ((room - 1) * 3) h) (λ z. omega arith))
+      few-cuts h = passes 7 (outside 1 (limits .blocks) room) _ (inside 1 (limits .blocks) room some few) (applies 8 (ltb (length cuts) ((room - 1) * 3)) _ (lt-ltb (length cuts) ((room - 1) * 3) h) (λ z. omega arith))
 
       module _ (c : (room - 1) * 3 ≤ length cuts) where
         pub few-rows : length rows < (room - 1) * 3 → 8 ≡ refusal (roomChecks room cuts rows)
         unfolding roomChecks
         few-rows h =
-            passes 7 (outside 1 256 room) _ (inside 1 256 room some few)
+            passes 7 (outside 1 (limits .blocks) room) _ (inside 1 (limits .blocks) room some few)
             (passes 8 (ltb (length cuts) ((room - 1) * 3)) _ (le-ltb (length cuts) ((room - 1) * 3) c)
             (applies 8 (ltb (length rows) ((room - 1) * 3)) [] (lt-ltb (length rows) ((room - 1) * 3) h) (λ z. omega arith)))
 
         pub enough : (room - 1) * 3 ≤ length rows → 0 ≡ refusal (roomChecks room cuts rows)
         unfolding roomChecks
         enough h =
-            passes 7 (outside 1 256 room) _ (inside 1 256 room some few)
+            passes 7 (outside 1 (limits .blocks) room) _ (inside 1 (limits .blocks) room some few)
             (passes 8 (ltb (length cuts) ((room - 1) * 3)) _ (le-ltb (length cuts) ((room - 1) * 3) c)
             (passes 8 (ltb (length rows) ((room - 1) * 3)) [] (le-ltb (length rows) ((room - 1) * 3) h) no-checks))
 
   -- what an accepted room leaves
   pub record Fits : Type 0 where
     pub some : 1 ≤ room
-    pub few : room ≤ 256
+    pub few : room ≤ limits .blocks
     pub cuts-fit : (room - 1) * 3 ≤ length cuts
     pub rows-fit : (room - 1) * 3 ≤ length rows
 
   pub room-fits : refusal (roomChecks room cuts rows) ≡ 0 → Fits
   unfolding roomChecks
   room-fits z =
-      let a = passed 7 (outside 1 256 room) _ (λ q. omega arith) z in
+      let a = passed 7 (outside 1 (limits .blocks) room) _ (λ q. omega arith) z in
       let b = passed 8 (ltb (length cuts) ((room - 1) * 3)) _ (λ q. omega arith) (a .1) in
       let c = passed 8 (ltb (length rows) ((room - 1) * 3)) [] (λ q. omega arith) (b .1) in
-      let i = inside-means 1 256 room (a .0) in
+      let i = inside-means 1 (limits .blocks) room (a .0) in
       record {
         some = i .0;
         few = i .1;

@@ -12,7 +12,7 @@ use lib.Seq.{getD-set-same, getD-set-other}
 use Rattle.task.specs.declared.Step.{Step}
 use Rattle.task.specs.declared.Block.{Block}
 use Rattle.task.specs.Loops.{tab}
-use Rattle.task.specs.Sizes.{limits}
+use Rattle.task.specs.Sizes.{limits, tenth}
 use Rattle.task.specs.Task.{Task, State, Tenths, Accepted, step, stepCount, costOf, isState, isGoal, canTake, taken}
 use Rattle.task.proofs.LoopLaws.{and-left, and-right, true-or-false, tab-length, tab-ext}
 use Rattle.task.proofs.TaskLaws.{taken-state}
@@ -51,7 +51,7 @@ abbrev seenIn : Tenths → Followed → Look
 seenIn cost f = seen cost (f .found) (f .path)
 
 module _ (t : Task) (v : Accepted t) (columns steps count : ℕ) (needs lands goals costs sets dist : List ℕ) (tables : Tables t columns steps needs lands goals costs)
-    (good : Parts t (blocksIn columns count sets)) (few : count ≤ 256) (holds : Holds (distances t (blocksIn columns count sets)) count dist) (cost : Tenths) where
+    (good : Parts t (blocksIn columns count sets)) (few : count ≤ limits .blocks) (holds : Holds (distances t (blocksIn columns count sets)) count dist) (cost : Tenths) where
   abbrev bs : Blocks
   bs = blocksIn columns count sets
 
@@ -251,8 +251,8 @@ plan-long t columns count sets path x a d n ha e q = go (walk t bs x a hs) q
     go (flawed a x w) q = let z : _≡_ {A = ℕ} 0 1 = unfold lookWalk in cc in absurd (omega arith)
 
 -- ---- what a walk came to on the tables is what 01 says, of any task whose tables they are
-module _ (columns steps count : ℕ) (a : Block) (needs lands goals costs sets dist here path : List ℕ) (few : count ≤ 256) (made : a .0 < count) (room : length path ≡ 256)
-    (r : Found) (here′ path′ : List ℕ) (is : outcome r here′ path′ ≡ followBy columns steps count needs lands goals costs sets dist (getD dist (a .0) 0 % 65536) 0 a here path) where
+module _ (columns steps count : ℕ) (a : Block) (needs lands goals costs sets dist here path : List ℕ) (few : count ≤ limits .blocks) (made : a .0 < count) (room : length path ≡ limits .blocks)
+    (r : Found) (here′ path′ : List ℕ) (is : outcome r here′ path′ ≡ followBy columns steps count needs lands goals costs sets dist (getD dist (a .0) 0 % tenth) 0 a here path) where
   pub follow-right : (t : Task) (cs : List Cut) (x : State) (d : Distance) → Begins t cs x d columns steps count a needs lands goals costs sets dist here
       → seen (d .cost) r path′ ≡ walked t columns count sets x a d
   unfolding walked Holds codedAt coded
@@ -260,9 +260,9 @@ module _ (columns steps count : ℕ) (a : Block) (needs lands goals costs sets d
       let bs : Blocks = blocksIn columns count sets in
       let l = blocks-length columns count sets in
       let good : Parts t (blocksIn columns count sets) = rw (b .blocks) (accepted-parts t (b .task) cs (b .cuts)) in
-      let n : getD dist (a .0) 0 ≡ d .cost * 65536 + d .steps = b .dists (a .0) made ∙ rw (b .far) in
+      let n : getD dist (a .0) 0 ≡ d .cost * tenth + d .steps = b .dists (a .0) made ∙ rw (b .far) in
       let small = far-small t (blocksIn columns count sets) (b .task .tenths) (omega arith) a d (omega arith) (b .far) in
-      let k : d .steps ≡ getD dist (a .0) 0 % 65536 = omega (arith, small .0) in
+      let k : d .steps ≡ getD dist (a .0) 0 % tenth = omega (arith, small .0) in
       let e : outcome r here′ path′ ≡ followBy columns steps count needs lands goals costs sets dist (d .steps) 0 a here path = rw k is in
       ap (seenIn (d .cost)) e
       ∙ whole-is t (b .task) columns steps count needs lands goals costs sets dist (b .tables) good few (b .dists) (d .cost) a x here path d
@@ -271,7 +271,7 @@ module _ (columns steps count : ℕ) (a : Block) (needs lands goals costs sets d
   -- all that a walk's contract says, from one equation
   abbrev pub Answers : Type 0
   Answers =
-      (outcome r here′ path′ ≡ followBy columns steps count needs lands goals costs sets dist (getD dist (a .0) 0 % 65536) 0 a here path)
+      (outcome r here′ path′ ≡ followBy columns steps count needs lands goals costs sets dist (getD dist (a .0) 0 % tenth) 0 a here path)
       × ((Known steps r path′ × (length here′ ≡ limits .columns) × (length path′ ≡ limits .blocks))
       × ((t : Task) (cs : List Cut) (x : State) (d : Distance) → Begins t cs x d columns steps count a needs lands goals costs sets dist here → seen (d .cost) r path′ ≡ walked t columns count sets x a d))
 

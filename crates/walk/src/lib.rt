@@ -3,7 +3,7 @@ ghost use mathlib.Core.Path.{_≡_};
 ghost use mathlib.Core.List.{List};
 ghost use Prim.Native.Nat.{_%_, _<_, _≤_};
 ghost use lib.ListN.{length, getD};
-ghost use Rattle.task.specs.Sizes.{limits};
+ghost use Rattle.task.specs.Sizes.{limits, tenth};
 ghost use Rattle.task.specs.Task.{Task, State};
 ghost use Rattle.blocks.specs.declared.Cut.{Cut};
 ghost use Rattle.distances.specs.Distances.{Distance};
@@ -20,6 +20,7 @@ use task::Block;
 use task::BlockSets;
 use task::ColumnSets;
 use task::Distances;
+use task::Model;
 use task::Path;
 use task::Step;
 use task::StepSets;
@@ -106,11 +107,11 @@ pub fn follow(
     path: &mut Path,
 ) -> Found
     requires { ⌜ (columns ≤ limits .columns) × (steps ≤ limits .steps) × (steps ≤ length (now costs)) × (count ≤ limits .blocks) × (from .0 < count)
-        × (getD (now dist) (from .0) 0 % 65536 < limits .blocks) × (length (now here) ≡ limits .columns)
+        × (getD (now dist) (from .0) 0 % tenth < limits .blocks) × (length (now here) ≡ limits .columns)
         × (length (now path) ≡ limits .blocks) ⌝ }
     ensures { λ r. ⌜ outcome r (now (here .exit)) (now (path .exit))
         ≡ followBy columns steps count (now (needs .entry)) (now (lands .entry)) (now (goals .entry)) (now (costs .entry)) (now (sets .entry))
-        (now (dist .entry)) (getD (now (dist .entry)) (from .0) 0 % 65536) 0 from (now (here .entry)) (now (path .entry)) ⌝
+        (now (dist .entry)) (getD (now (dist .entry)) (from .0) 0 % tenth) 0 from (now (here .entry)) (now (path .entry)) ⌝
         ∗ ⌜ Known steps r (now (path .exit)) × (length (now (here .exit)) ≡ limits .columns)
         × (length (now (path .exit)) ≡ limits .blocks) ⌝
         ∗ ⌜ ((t : Task) (cs : List Cut) (x : State) (d : Distance)
@@ -119,7 +120,7 @@ pub fn follow(
         ≡ walked t columns count (now (sets .entry)) x from d) ⌝ }
 {
     let a0 = from.0 as usize;
-    let n = (dist[a0] % 65536) as usize;
+    let n = (dist[a0] % Model::TENTH) as usize;
     let mut a = from;
     let mut i: usize = 0;
     while i < n {

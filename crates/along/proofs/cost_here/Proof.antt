@@ -2,6 +2,7 @@ use Prim.Native.Nat.{ℕ, _/_}
 use native.Mathlib.Omega.{arith}
 use mathlib.Core.Path.{ap}
 use lib.ListN.{getD}
+use Rattle.task.specs.Sizes.{tenth}
 use Rattle.along.specs.Along.{costBy}
 use borrow.Author.Needs.{needs}
 use Rattle.along.proofs.cost_here.Statement.{statement}
@@ -35,7 +36,7 @@ cast-result-2 c = let p = c .before .before .before .before .pre in
 returns : tie.Need-returns
 unfolding costBy
 returns c = let g = c .before .before .before .before .args in
-    ap (λ (a : ℕ). getD (g .dist .now) a 0 / 65536) (c .before .before .block-here .ensures .0)
+    ap (λ (a : ℕ). getD (g .dist .now) a 0 / tenth) (c .before .before .block-here .ensures .0)
 
 pub cost-here-spec : {M : Type 1} → statement M
 cost-here-spec =

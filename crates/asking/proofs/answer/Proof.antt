@@ -1,6 +1,7 @@
 use Rattle.asking.specs.Question.{statesIn}
 use native.Mathlib.Omega.{arith}
 use lib.ListN.{replicate}
+use Rattle.task.specs.Sizes.{limits, mostValues}
 use Rattle.task.specs.Tables.{taskOf}
 use Rattle.task.proofs.TableLaws.{columns-of}
 use Rattle.cut_sheets.proofs.JudgeLaws.{count-below}
@@ -47,7 +48,7 @@ fill-estimates-requires c κs = let g = c .before .before .before .before .befor
     let v = p .0 in
     let e = c .before .before .before .before .before .before .before .before .field .ensures in
     let h = count-below (g .part .now) e in
-    (omega (arith, v .columns .0, columns-of m), omega (arith, v .columns .1, columns-of m), h, search (needs, h), rw (columns-of m) at (few-states (taskOf m) (g .states .now) (p .3)), rw (columns-of m) at (p .4), column-small (taskOf m) (columns-of m) v (g .part .now) (g .sets .now) (p .1) (p .2) e h (replicate 765 0) (search (needs, h)) (c .before .before .before .before .before .before .fill-cuts .ensures), byte-fits (taskOf m) (g .states .now) (p .3) v, dist-small (taskOf m) (columns-of m) v (g .part .now) (g .sets .now) (p .1) (p .2) e h (replicate 765 0) (search (needs, h)) (c .before .before .before .before .before .before .fill-cuts .ensures) (replicate 256 0) (c .before .before .before .measure .ensures))
+    (omega (arith, v .columns .0, columns-of m), omega (arith, v .columns .1, columns-of m), h, search (needs, h), rw (columns-of m) at (few-states (taskOf m) (g .states .now) (p .3)), rw (columns-of m) at (p .4), column-small (taskOf m) (columns-of m) v (g .part .now) (g .sets .now) (p .1) (p .2) e h (replicate mostValues 0) (search (needs, h)) (c .before .before .before .before .before .before .fill-cuts .ensures), byte-fits (taskOf m) (g .states .now) (p .3) v, dist-small (taskOf m) (columns-of m) v (g .part .now) (g .sets .now) (p .1) (p .2) e h (replicate mostValues 0) (search (needs, h)) (c .before .before .before .before .before .before .fill-cuts .ensures) (replicate (limits .blocks) 0) (c .before .before .before .measure .ensures))
 
 same-length : tie.Need-same-length
 same-length c = search needs
@@ -57,7 +58,7 @@ returns c = let g = c .before .before .before .before .before .before .before .b
     let p = c .before .before .before .before .before .before .before .before .before .before .before .before .before .before .before .pre in
     let e = c .before .before .before .before .before .before .before .before .before .before .before .field .ensures in
     let h = count-below (g .part .now) e in
-    answered (taskOf (g .model)) (columns-of (g .model)) (p .0) (g .part .now) (g .sets .now) (p .1) (p .2) e h (replicate 765 0) (search (needs, h)) (c .before .before .before .before .before .before .before .before .before .fill-cuts .ensures) (replicate 256 0) (c .before .before .before .before .before .before .measure .ensures) (g .states .now) (g .estimates .now) (p .3) (c .before .before .fill-estimates .ensures)
+    answered (taskOf (g .model)) (columns-of (g .model)) (p .0) (g .part .now) (g .sets .now) (p .1) (p .2) e h (replicate mostValues 0) (search (needs, h)) (c .before .before .before .before .before .before .before .before .before .fill-cuts .ensures) (replicate (limits .blocks) 0) (c .before .before .before .before .before .before .measure .ensures) (g .states .now) (g .estimates .now) (p .3) (c .before .before .fill-estimates .ensures)
 
 pub answer-spec : {M : Type 1} → statement M
 answer-spec =

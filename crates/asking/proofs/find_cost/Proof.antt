@@ -2,6 +2,7 @@ use Prim.Native.Nat.{_/_}
 use native.Mathlib.Omega.{arith}
 use mathlib.Core.Path.{ap}
 use lib.ListN.{getD}
+use Rattle.task.specs.Sizes.{tenth}
 use Rattle.asking.specs.Question.{costFound}
 use Rattle.blocks.proofs.FollowLaws.{followed-most}
 use borrow.Author.Needs.{needs}
@@ -33,7 +34,7 @@ cast-result-2 c = let g = c .before .before .before .before .args in
 returns : tie.Need-returns
 unfolding costFound
 returns c = let g = c .before .before .before .before .args in
-    ap (λ a. getD (g .dist .now) a 0 / 65536) (c .before .before .block-of .ensures .0)
+    ap (λ a. getD (g .dist .now) a 0 / tenth) (c .before .before .block-of .ensures .0)
 
 pub find-cost-spec : {M : Type 1} → statement M
 find-cost-spec =

@@ -2,6 +2,7 @@ use native.Mathlib.Omega.{arith}
 use Prim.Native.Nat.{ℕ}
 use mathlib.Core.Path.{_≡_, refl}
 use lib.ListN.{length, replicate}
+use Rattle.task.specs.Sizes.{blockPlaces}
 use Rattle.task.specs.Tables.{taskOf}
 use Rattle.task.proofs.LoopLaws.{length-mapped}
 use Rattle.task.proofs.TableLaws.{steps-of}
@@ -40,9 +41,9 @@ cut-on-requires c κs = let m = c .before .before .before .before .before .befor
     let o = c .before .before .before .before .before .before .before .before .before .before .before .before .before .before .before .before .before .before .before .good in
     let k : length (m .cost) ≡ 128 = search (needs, o) in
     let l : length (m .start) ≡ 16 = search (length-mapped, needs, o) in
-    let z : length {A = ℕ} (replicate 4096 0) ≡ 4096 = refl in
+    let z : length {A = ℕ} (replicate blockPlaces 0) ≡ blockPlaces = refl in
     let f = c .before .before .before .before .before .before .before .before .fill-first .ensures in
-    ((p .1, p .2, omega (arith, k, v .steps, steps-of m), first-fills m (replicate 4096 0) f (v .columns .1) z, search needs, p .3), record { task = taskOf m; given = model-given m v l (c .before .before .before .before .before .before .before .before .before .before .before .before .before .before .fill-needs .ensures) (c .before .before .before .before .before .before .before .before .before .before .before .before .fill-lands .ensures) (c .before .before .before .before .before .before .before .before .before .before .fill-goals .ensures); stand = first-stands m v _ (replicate 4096 0) f })
+    ((p .1, p .2, omega (arith, k, v .steps, steps-of m), first-fills m (replicate blockPlaces 0) f (v .columns .1) z, search needs, p .3), record { task = taskOf m; given = model-given m v l (c .before .before .before .before .before .before .before .before .before .before .before .before .before .before .fill-needs .ensures) (c .before .before .before .before .before .before .before .before .before .before .before .before .fill-lands .ensures) (c .before .before .before .before .before .before .before .before .before .before .fill-goals .ensures); stand = first-stands m v _ (replicate blockPlaces 0) f })
 
 same-length : tie.Need-same-length
 same-length c = search needs
@@ -52,7 +53,7 @@ returns c = let m = c .before .before .before .before .before .before .before .b
     let v = c .before .before .before .before .before .before .before .before .before .before .before .before .before .before .before .before .before .before .before .before .before .before .pre .0 in
     let o = c .before .before .before .before .before .before .before .before .before .before .before .before .before .before .before .before .before .before .before .before .before .before .good in
     let l : length (m .start) ≡ 16 = search (length-mapped, needs, o) in
-    (c .before .before .cut-on .ensures .0 (taskOf m) (model-given m v l (c .before .before .before .before .before .before .before .before .before .before .before .before .before .before .before .before .before .fill-needs .ensures) (c .before .before .before .before .before .before .before .before .before .before .before .before .before .before .before .fill-lands .ensures) (c .before .before .before .before .before .before .before .before .before .before .before .before .before .fill-goals .ensures)) (first-stands m v _ (replicate 4096 0) (c .before .before .before .before .before .before .before .before .before .before .before .fill-first .ensures)), c .before .before .cut-on .ensures .1)
+    (c .before .before .cut-on .ensures .0 (taskOf m) (model-given m v l (c .before .before .before .before .before .before .before .before .before .before .before .before .before .before .before .before .before .fill-needs .ensures) (c .before .before .before .before .before .before .before .before .before .before .before .before .before .before .before .fill-lands .ensures) (c .before .before .before .before .before .before .before .before .before .before .before .before .before .fill-goals .ensures)) (first-stands m v _ (replicate blockPlaces 0) (c .before .before .before .before .before .before .before .before .before .before .before .fill-first .ensures)), c .before .before .cut-on .ensures .1)
 
 pub refine-spec : {M : Type 1} → statement M
 refine-spec =
