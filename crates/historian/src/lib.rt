@@ -13,6 +13,8 @@ use planner::Replayed;
 use planner::question;
 use planner::replay;
 use planner::run;
+use running::cut_values;
+use running::row_values;
 use task::Model;
 use values::get_values;
 use values::put_signed;
@@ -58,8 +60,8 @@ fn run_in(
     let m = usable_places(Model::BLOCKS - 1, cuts.len() / 12) * 3;
     let n = usable_places(Model::BLOCKS - 1, rows.len() / 12) * 3;
     let answer = run(sheet, room, &mut cut_list[..m], &mut row_list[..n]);
-    put_values(cut_list, answer.cut_values(), cuts);
-    put_values(row_list, answer.row_values(), rows);
+    put_values(cut_list, cut_values(answer), cuts);
+    put_values(row_list, row_values(answer), rows);
     answer_number(answer)
 }
 

@@ -122,28 +122,7 @@ pub fn run(sheet: &[u8], room: u32, cuts: &mut [u32], rows: &mut [u32]) -> Answe
     tell(ended, &path, &cost, rows)
 }
 
-// How many rows an answer has, and how many values its cuts and rows take in the lists.
 impl Answer {
-    // There is one cut less than blocks.
-    pub fn cut_values(self) -> usize
-        requires { ⌜ Counted self ⌝ }
-        ensures { λ r. ⌜ r ≡ cutValueCount self ⌝ }
-    {
-        match self {
-            Answer::Plan {
-                cost: _,
-                steps: _,
-                blocks,
-            } => (blocks - 1) * 3,
-            Answer::NoPlan { blocks } => (blocks - 1) * 3,
-            Answer::Open {
-                estimate: _,
-                blocks,
-            } => (blocks - 1) * 3,
-            Answer::Refused(_) => 0,
-        }
-    }
-
     // A plan has a row for each step.
     pub fn row_count(self) -> usize
         ensures { λ r. ⌜ r ≡ rowCount self ⌝ }
@@ -162,11 +141,33 @@ impl Answer {
             Answer::Refused(_) => 0,
         }
     }
+}
 
-    pub fn row_values(self) -> usize
-        requires { ⌜ Counted self ⌝ }
-        ensures { λ r. ⌜ r ≡ rowValueCount self ⌝ }
-    {
-        self.row_count() * 3
+// How many values the cuts of an answer take in the list: there is one cut less than blocks. No method, since a caller of the planner may have made up the
+// answer, and this asks for one of a run.
+pub fn cut_values(answer: Answer) -> usize
+    requires { ⌜ Counted answer ⌝ }
+    ensures { λ r. ⌜ r ≡ cutValueCount answer ⌝ }
+{
+    match answer {
+        Answer::Plan {
+            cost: _,
+            steps: _,
+            blocks,
+        } => (blocks - 1) * 3,
+        Answer::NoPlan { blocks } => (blocks - 1) * 3,
+        Answer::Open {
+            estimate: _,
+            blocks,
+        } => (blocks - 1) * 3,
+        Answer::Refused(_) => 0,
     }
+}
+
+// The same of its rows.
+pub fn row_values(answer: Answer) -> usize
+    requires { ⌜ Counted answer ⌝ }
+    ensures { λ r. ⌜ r ≡ rowValueCount answer ⌝ }
+{
+    answer.row_count() * 3
 }
