@@ -24,7 +24,7 @@ use Rattle.cut_reading.specs.Rebuilding.{SheetJudged}
 use Rattle.cut_reading.proofs.RebuildLaws.{sheets-ok, start-within}
 use Rattle.unpack.proofs.GivenLaws.{read-code, given-task, given-accepted, given-columns}
 use Rattle.asking.specs.declared.Asked.the-variants.{Estimates, Refused}
-use Rattle.asking.specs.Question.{statesIn, badStates, estimatesOf, questionChecks, outcome, asking, Asks}
+use Rattle.asking.specs.Question.{statesIn, badStates, estimatesOf, questionChecks, questionOutcome, asking, Asks}
 
 -- the answer of the code that judges states
 eleven : (b : Bool) {r : ℕ} → r ≡ cond b 11 0 → (r ≡ 0 → ⊥) → (b ≡ true) × (r ≡ 11)
@@ -38,7 +38,7 @@ fine false e z = refl
 module _ (m s states est : List ℕ) where
   refusing : {r : ℕ} → r ≡ refusal (questionChecks m s states est) → (r ≡ 0 → ⊥) → Asks m s states est (Refused r) est
   unfolding asking
-  refusing e z = refused-is (λ n. outcome (Refused n) est) (questionChecks m s states est) _ e z
+  refusing e z = refused-is (λ n. questionOutcome (Refused n) est) (questionChecks m s states est) _ e z
 
   module _ {r : ℕ} {exit : List ℕ} (j : SheetJudged m s r exit) where
     -- a refusal of the sheets
@@ -115,4 +115,4 @@ module _ (m s states est : List ℕ) where
                     let q : 0 ≡ refusal (questionChecks m s states est) =
                     after (passes 11 (badStates (taskOn m) states) _ good-on (passes 8 (ltb (length est) (statesIn (taskOn m) states)) [] (le-ltb (length est) (statesIn (taskOn m) states) (omega (arith, asked))) no-checks)) in
                     let o = f ∙ ap₂ (λ (t : Task) (l : List ℕ). over (estimatesOf t (cutsNamed (cutOn l) (countOf l)) states) est) same p in
-                    simp (eq-eqb (refusal (questionChecks m s states est)) 0 (sym q)) (ap₂ outcome (ap Estimates (sym asked)) o)
+                    simp (eq-eqb (refusal (questionChecks m s states est)) 0 (sym q)) (ap₂ questionOutcome (ap Estimates (sym asked)) o)

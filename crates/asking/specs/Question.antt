@@ -73,20 +73,20 @@ unfoldable pub number : Asked → ℕ
 number (Estimates n) = 0
 number (Refused n) = n
 
-pub record Outcome : Type 0 where
+pub record QuestionOutcome : Type 0 where
   pub answer : Asked
   pub estimates : List ℕ
 
-abbrev pub outcome : Asked → List ℕ → Outcome
-outcome a estimates = record { answer = a; estimates = estimates }
+abbrev pub questionOutcome : Asked → List ℕ → QuestionOutcome
+questionOutcome a estimates = record { answer = a; estimates = estimates }
 
 -- a refusal returns only its number and changes nothing lent; else one estimate for each state, and places past the last one stay
-unfoldable pub asking : List ℕ → List ℕ → List ℕ → List ℕ → Outcome
+unfoldable pub asking : List ℕ → List ℕ → List ℕ → List ℕ → QuestionOutcome
 asking model s states estimates =
     unlessRefused (refusal (questionChecks model s states estimates))
-    (outcome (Estimates (statesIn (taskOn model) states)) (over (estimatesOf (taskOn model) (cutsOf s) states) estimates))
-    (λ n. outcome (Refused n) estimates)
+    (questionOutcome (Estimates (statesIn (taskOn model) states)) (over (estimatesOf (taskOn model) (cutsOf s) states) estimates))
+    (λ n. questionOutcome (Refused n) estimates)
 
 -- what `question` promises, whatever is passed: the answer and the list at exit
 abbrev pub Asks : (model s states estimates : List ℕ) → Asked → (estimates′ : List ℕ) → Type 0
-Asks model s states estimates r estimates′ = outcome r estimates′ ≡ asking model s states estimates
+Asks model s states estimates r estimates′ = questionOutcome r estimates′ ≡ asking model s states estimates

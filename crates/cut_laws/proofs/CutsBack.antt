@@ -19,9 +19,9 @@ use Rattle.cut_sheets.specs.CutSheet.{tailOf, cutSheetChecks, cutValues, cutLis
 use Rattle.cut_sheets.proofs.CutPartLaws.{PartFine, part-fine}
 use Rattle.cut_sheets.proofs.CutSheetLaws as sheet
 use Rattle.cut_reading.specs.declared.CutsRebuilt.the-variants.{Cuts}
-use Rattle.cut_reading.specs.Rebuilding.{outcome, rebuilding}
+use Rattle.cut_reading.specs.Rebuilding.{rebuildOutcome, rebuilding}
 use Rattle.cut_writing.specs.declared.CutsWritten.the-variants.{Sheet}
-use Rattle.cut_writing.specs.CutWriting.{outcome as written, writingCuts}
+use Rattle.cut_writing.specs.CutWriting.{writeCutsOutcome as written, writingCuts}
 
 -- ---- written and rebuilt
 module _ (model : List ℕ) (count : ℕ) (cuts : List ℕ) (ok : judgeSheet model ≡ 0) (good : judged (cutEntries (taskOn model) (ofCuts count cuts)) ≡ 0) where
@@ -67,9 +67,9 @@ module _ (model : List ℕ) (count : ℕ) (cuts : List ℕ) (ok : judgeSheet mod
         ∙ sym (passes 8 _ [] (le-ltb (length c₀) (countOf (tailOf S) * 3) (rw count-found h)) no-checks)
 
     -- written and rebuilt gives the same cuts, in any list that is long enough
-    pub cuts-back : (c₀ : List ℕ) → count * 3 ≤ length c₀ → rebuilding model S c₀ ≡ outcome (Cuts count) (over (take (count * 3) cuts) c₀)
+    pub cuts-back : (c₀ : List ℕ) → count * 3 ≤ length c₀ → rebuilding model S c₀ ≡ rebuildOutcome (Cuts count) (over (take (count * 3) cuts) c₀)
     unfolding rebuilding
-    cuts-back c₀ h = simp (eq-eqb (refusal (rebuildChecks model S c₀)) 0 (no-refusal c₀ h)) (λ k. outcome (Cuts (count-found k)) (over (list-found k) c₀))
+    cuts-back c₀ h = simp (eq-eqb (refusal (rebuildChecks model S c₀)) 0 (no-refusal c₀ h)) (λ k. rebuildOutcome (Cuts (count-found k)) (over (list-found k) c₀))
 
 -- ---- rebuilt into any list, and written again
 module _ (model s : List ℕ) (ok : refusal (cutSheetChecks model s) ≡ 0) (bs : Bytes s) (c₀ : List ℕ) where

@@ -18,7 +18,7 @@ use Rattle.cut_sheets.specs.CutPart.{cutEntries, cutBytes}
 use Rattle.cut_sheets.specs.CutSheet.{cutLent, ofCuts, cutSheetOf, givenChecks, writeCutsChecks}
 use Rattle.cut_sheets.proofs.CutPartLaws.{SameCuts, same-fields}
 use Rattle.cut_writing.specs.declared.CutsWritten.the-variants.{Sheet, Refused}
-use Rattle.cut_writing.specs.CutWriting.{outcome, writingCuts}
+use Rattle.cut_writing.specs.CutWriting.{writeCutsOutcome, writingCuts}
 
 module _ (model : List ℕ) (count : ℕ) (cuts cuts′ : List ℕ) (same : take (count * 3) cuts ≡ take (count * 3) cuts′) where
   first-same : SameCuts (ofCuts count cuts) (ofCuts count cuts′) count
@@ -44,4 +44,4 @@ module _ (model : List ℕ) (count : ℕ) (cuts cuts′ : List ℕ) (same : take
   first-places sheet =
       ap (λ (es : List Entry).
       let r = refusal ((sheetChecks model ++ checksOf es) ++ (tooFew (length model + cutBytes count) sheet ∷ [])) in
-      cond (eqb r 0) (outcome (Sheet (length model + cutBytes count)) (over (model ++ sheetOf es) sheet)) (outcome (Refused r) sheet)) same-entries
+      cond (eqb r 0) (writeCutsOutcome (Sheet (length model + cutBytes count)) (over (model ++ sheetOf es) sheet)) (writeCutsOutcome (Refused r) sheet)) same-entries

@@ -15,9 +15,9 @@ use Rattle.cut_sheets.specs.CutPart.{CutSource, cutHeader, cutPart, cutFields, 
 use Rattle.cut_sheets.specs.CutSheet.{tailOf, cutSheetChecks, cutList, rebuildChecks, ofCuts, cutSheetOf, givenChecks, writeCutsChecks}
 use Rattle.cut_sheets.proofs.CutPartLaws.{H, C, F}
 use Rattle.cut_reading.specs.declared.CutsRebuilt.the-variants.{Cuts, Refused}
-use Rattle.cut_reading.specs.Rebuilding.{Outcome, outcome, number, rebuilding}
+use Rattle.cut_reading.specs.Rebuilding.{RebuildOutcome, rebuildOutcome, number, rebuilding}
 use Rattle.cut_writing.specs.declared.CutsWritten.the-variants.{Sheet, Refused as NotWritten}
-use Rattle.cut_writing.specs.CutWriting.{Outcome as Written, outcome as written, number as writeNumber, writingCuts}
+use Rattle.cut_writing.specs.CutWriting.{WriteCutsOutcome as Written, writeCutsOutcome as written, number as writeNumber, writingCuts}
 
 -- which numbers the fields of a cut part can get; both sheets; whoever rebuilds cuts, and whoever writes them
 abbrev pub partNumbers : List ℕ
@@ -54,7 +54,7 @@ module _ (model s cuts : List ℕ) where
   unfolding rebuildChecks
   rebuild-numbers = numbers-append (has rebuildNumbers) sheetsNumbers refl (cutSheetChecks model s) _ (sheets-numbers model s) refl
 
-  pub rebuilder : Judged (λ (o : Outcome). number (o .answer)) (λ n. outcome (Refused n) cuts) (rebuildChecks model s cuts) (outcome (Cuts (countOf (tailOf s))) (over (cutList s) cuts)) (rebuilding model s cuts)
+  pub rebuilder : Judged (λ (o : RebuildOutcome). number (o .answer)) (λ n. rebuildOutcome (Refused n) cuts) (rebuildChecks model s cuts) (rebuildOutcome (Cuts (countOf (tailOf s))) (over (cutList s) cuts)) (rebuilding model s cuts)
   unfolding rebuilding number
   rebuilder = judges _ _ rebuildNumbers refl (rebuildChecks model s cuts) rebuild-numbers _ refl refl
 

@@ -32,7 +32,7 @@ use Rattle.cut_sheets.specs.CutSheet.{tailOf, atFront, cutSheetChecks, cutValue
 use Rattle.cut_sheets.specs.Judged.{Made, PartJudged}
 use Rattle.cut_sheets.proofs.CutSheetLaws.{tail-is, front-refusal, model-refused, inner-refused, ten-refused, front-take, sheet-accepted, values-length}
 use Rattle.cut_reading.specs.declared.CutsRebuilt.the-variants.{Cuts, Refused}
-use Rattle.cut_reading.specs.Rebuilding.{SheetJudged, outcome, rebuilding, Rebuilds}
+use Rattle.cut_reading.specs.Rebuilding.{SheetJudged, rebuildOutcome, rebuilding, Rebuilds}
 
 -- ---- bytes at the front of others
 unfoldable pub sameTo : List ℕ → List ℕ → ℕ → Bool
@@ -146,7 +146,7 @@ module _ (m s : List ℕ) where
 module _ (m s cuts : List ℕ) where
   pub refusing : {r : ℕ} → r ≡ refusal (rebuildChecks m s cuts) → (r ≡ 0 → ⊥) → Rebuilds m s cuts (Refused r) cuts
   unfolding rebuilding
-  refusing e z = refused-is (λ n. outcome (Refused n) cuts) (rebuildChecks m s cuts) _ e z
+  refusing e z = refused-is (λ n. rebuildOutcome (Refused n) cuts) (rebuildChecks m s cuts) _ e z
 
   module _ {r : ℕ} {exit : List ℕ} (j : SheetJudged m s r exit) where
     -- a refusal of the sheets
@@ -186,4 +186,4 @@ module _ (m s cuts : List ℕ) where
             let l : length (each n (cutValues (cutOn part))) ≡ n * 3 = each-length (cutValues (cutOn part)) 3 (values-length (cutOn part)) n in
             let o : puts 0 (each n (cutValues (cutOn part))) cuts ≡ over (cutList s) cuts =
             puts-over (each n (cutValues (cutOn part))) cuts (omega arith) ∙ ap₂ (λ (k : ℕ) (t : List ℕ). over (each k (cutValues (cutOn t))) cuts) count-is p in
-            simp (eq-eqb (refusal (rebuildChecks m s cuts)) 0 (sym q)) (ap₂ outcome (ap Cuts count-is) (f ∙ o))
+            simp (eq-eqb (refusal (rebuildChecks m s cuts)) 0 (sym q)) (ap₂ rebuildOutcome (ap Cuts count-is) (f ∙ o))

@@ -22,18 +22,19 @@ unfoldable pub number : CutsRebuilt → ℕ
 number (Cuts n) = 0
 number (Refused n) = n
 
-pub record Outcome : Type 0 where
+pub record RebuildOutcome : Type 0 where
   pub answer : CutsRebuilt
   pub cuts : List ℕ
 
-abbrev pub outcome : CutsRebuilt → List ℕ → Outcome
-outcome a cuts = record { answer = a; cuts = cuts }
+abbrev pub rebuildOutcome : CutsRebuilt → List ℕ → RebuildOutcome
+rebuildOutcome a cuts = record { answer = a; cuts = cuts }
 
 -- a refusal returns only its number and changes nothing lent; else the list has the cuts, and places past the last one stay
-unfoldable pub rebuilding : List ℕ → List ℕ → List ℕ → Outcome
+unfoldable pub rebuilding : List ℕ → List ℕ → List ℕ → RebuildOutcome
 rebuilding model s cuts =
-    unlessRefused (refusal (rebuildChecks model s cuts)) (outcome (Cuts (countOf (tailOf s))) (over (cutList s) cuts)) (λ n. outcome (Refused n) cuts)
+    unlessRefused (refusal (rebuildChecks model s cuts)) (rebuildOutcome (Cuts (countOf (tailOf s))) (over (cutList s) cuts))
+    (λ n. rebuildOutcome (Refused n) cuts)
 
 -- what `rebuild` promises, whatever is passed: the answer and the list at exit
 abbrev pub Rebuilds : (model s cuts : List ℕ) → CutsRebuilt → (cuts′ : List ℕ) → Type 0
-Rebuilds model s cuts r cuts′ = outcome r cuts′ ≡ rebuilding model s cuts
+Rebuilds model s cuts r cuts′ = rebuildOutcome r cuts′ ≡ rebuilding model s cuts

@@ -28,7 +28,7 @@ use Rattle.sheets.specs.LentTables.{tooFew}
 use Rattle.sheets.specs.Holding.{taskOn}
 use Rattle.sheets.proofs.HeldTaskLaws.{accepted-task}
 use Rattle.cut_writing.specs.declared.CutsWritten.the-variants.{Sheet, Refused}
-use Rattle.cut_writing.specs.CutWriting.{outcome, writingCuts, WritesCuts}
+use Rattle.cut_writing.specs.CutWriting.{writeCutsOutcome, writingCuts, WritesCuts}
 use Rattle.cut_sheets.specs.Judged.{CutsJudged}
 use Rattle.cut_sheets.proofs.CutPartLaws.{H, C, F, at-cuts, at-fill, part-fine, part-bits, cut-whole}
 use Rattle.cut_sheets.proofs.CutRoundLaws as round
@@ -157,7 +157,7 @@ module _ (model : List ℕ) (count : ℕ) (cuts sheet : List ℕ) where
 
   refusing : {r : ℕ} → r ≡ refusal (writeCutsChecks model count cuts sheet) → (r ≡ 0 → ⊥) → WritesCuts model count cuts sheet (Refused r) sheet
   unfolding writingCuts
-  refusing e z = refused-is (λ n. outcome (Refused n) sheet) (writeCutsChecks model count cuts sheet) _ e z
+  refusing e z = refused-is (λ n. writeCutsOutcome (Refused n) sheet) (writeCutsChecks model count cuts sheet) _ e z
 
   pub given-refused : {r : ℕ} → r ≡ refusal (givenChecks model count cuts) → (r ≡ 0 → ⊥) → WritesCuts model count cuts sheet (Refused r) sheet
   unfolding writeCutsChecks
@@ -204,4 +204,4 @@ module _ (model : List ℕ) (count : ℕ) (cuts sheet : List ℕ) where
         let o : exit ≡ over (model ++ sheetOf E) sheet =
         x ∙ ap (λ (l : List ℕ). putMid (length model) (length l - length model) l part) f ∙ put-tail model d part ∙ ap (λ (l : List ℕ). model ++ l) i ∙ over-two model d (sheetOf E) sheet in
         let k : 0 ≡ refusal (writeCutsChecks model count cuts sheet) = places (passes 8 (ltb (length sheet) bytes) [] (le-ltb (length sheet) bytes h) no-checks) in
-        simp (eq-eqb (refusal (writeCutsChecks model count cuts sheet)) 0 (sym k)) (ap₂ outcome (ap Sheet q) o)
+        simp (eq-eqb (refusal (writeCutsChecks model count cuts sheet)) 0 (sym k)) (ap₂ writeCutsOutcome (ap Sheet q) o)

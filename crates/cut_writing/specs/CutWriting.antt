@@ -15,20 +15,20 @@ unfoldable pub number : CutsWritten → ℕ
 number (Sheet n) = 0
 number (Refused n) = n
 
-pub record Outcome : Type 0 where
+pub record WriteCutsOutcome : Type 0 where
   pub answer : CutsWritten
   pub sheet : List ℕ
 
-abbrev pub outcome : CutsWritten → List ℕ → Outcome
-outcome a sheet = record { answer = a; sheet = sheet }
+abbrev pub writeCutsOutcome : CutsWritten → List ℕ → WriteCutsOutcome
+writeCutsOutcome a sheet = record { answer = a; sheet = sheet }
 
 -- a refusal returns only its number and changes nothing lent; else the bytes are the sheet, and those past it stay
-unfoldable pub writingCuts : List ℕ → ℕ → List ℕ → List ℕ → Outcome
+unfoldable pub writingCuts : List ℕ → ℕ → List ℕ → List ℕ → WriteCutsOutcome
 writingCuts model count cuts sheet =
     unlessRefused (refusal (writeCutsChecks model count cuts sheet))
-    (outcome (Sheet (length model + cutBytes count)) (over (cutSheetOf model count cuts) sheet))
-    (λ n. outcome (Refused n) sheet)
+    (writeCutsOutcome (Sheet (length model + cutBytes count)) (over (cutSheetOf model count cuts) sheet))
+    (λ n. writeCutsOutcome (Refused n) sheet)
 
 -- what `write_cuts` promises, whatever is passed: the answer and the bytes at exit
 abbrev pub WritesCuts : (model : List ℕ) (count : ℕ) (cuts sheet : List ℕ) → CutsWritten → (sheet′ : List ℕ) → Type 0
-WritesCuts model count cuts sheet r sheet′ = outcome r sheet′ ≡ writingCuts model count cuts sheet
+WritesCuts model count cuts sheet r sheet′ = writeCutsOutcome r sheet′ ≡ writingCuts model count cuts sheet

@@ -31,7 +31,7 @@ use Rattle.asking.specs.Question.{stateIn, statesIn, badStates, estimateAt, est
 use Rattle.question_laws.proofs.Estimates as estimates
 use Rattle.sheets.specs.LentTables.{tooFew}
 use Rattle.values.specs.Values.{bytesOf, valueOn, valuesOn}
-use Rattle.historian.specs.Entries.{askChecks, AskOutcome, EntryRuns, EntryAsks}
+use Rattle.historian.specs.Entries.{askChecks, AskEntryOutcome, EntryRuns, EntryAsks}
 use Rattle.demands.proofs.Numbers.{kind, value, value-back}
 use Rattle.demands.proofs.Refusals.{elhavir-question-judged}
 use Rattle.demands.proofs.Entry as entry
@@ -130,7 +130,7 @@ module _ (model s states est : List ℕ) {r : ℕ} {l : List ℕ} (done : EntryA
 
   -- the bytes of one value for each state, over the front of the list
   pub entry-estimates-written : l ≡ over (bytesOf (estimatesOf u (cutsOf s) states)) est
-  entry-estimates-written = ap (λ (o : AskOutcome). o .estimates) (elhavir-question-judged model s states est done .done answered)
+  entry-estimates-written = ap (λ (o : AskEntryOutcome). o .estimates) (elhavir-question-judged model s states est done .done answered)
 
   pub entry-one-each : length (estimatesOf u (cutsOf s) states) ≡ statesIn u states
   unfolding estimatesOf

@@ -101,7 +101,7 @@ module _ (s : List ℕ) (room : ℕ) (cuts rows : List ℕ) {r : ℕ} {c l : Lis
   abbrev u : Task
   u = taskOn s
 
-  pub had : entry.Made s room cuts rows done
+  pub had : entry.EntryMade s room cuts rows done
   had = entry.entry-says s room cuts rows done kept
 
   pub entry-accepted-and-room : Accepted u × (1 ≤ room) × (room ≤ limits .blocks)

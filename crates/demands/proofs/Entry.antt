@@ -28,9 +28,9 @@ use Rattle.run.proofs.RunLaws.{Cheapest, NoPlan, Right, run-right}
 use Rattle.run.proofs.LengthLaws.{plan-short}
 use Rattle.blocks.specs.Flat.{cutPlace}
 use Rattle.run.specs.Listing.{listed, rowPlace}
-use Rattle.running.specs.Running.{roomChecks, runChecks, told}
+use Rattle.running.specs.Running.{roomChecks, runChecks, returned}
 use Rattle.values.specs.Values.{bytesOf, valuesOn}
-use Rattle.historian.specs.Entries.{answerNumber, entryChecks, RunOutcome, madeBytes, EntryRuns}
+use Rattle.historian.specs.Entries.{answerNumber, entryChecks, RunEntryOutcome, madeBytes, EntryRuns}
 use Rattle.demands.proofs.Numbers.{kind, blocks, steps, value, Parts, takes-apart}
 use Rattle.demands.proofs.RefusalNumbers.{run-byte}
 use Rattle.demands.proofs.Refusals.{entry-made, entry-refused}
@@ -76,10 +76,10 @@ pub record Tells (t : Task) (room : ℕ) (cs : List Cut) (bytes₀ : List ℕ) (
 
 module _ (t : Task) (v : Accepted t) (room : ℕ) (few : room ≤ limits .blocks) (cs : List Cut) (ok : accepted t cs ≡ true) (fit : length cs + 1 ≤ room) (bytes₀ : List ℕ) where
   abbrev Told : run.Answer → Type 0
-  Told a = Tells t room cs bytes₀ (answerNumber (told t (length cs + 1) a)) (over (bytesOf (listed rowPlace (rowsOf t a))) bytes₀)
+  Told a = Tells t room cs bytes₀ (answerNumber (returned t (length cs + 1) a)) (over (bytesOf (listed rowPlace (rowsOf t a))) bytes₀)
 
   tells : (a : run.Answer) → Right t room cs a → ((ss : List Step) → a ≡ plan ss → length ss < room) → Told a
-  unfolding answerNumber told rowsOf
+  unfolding answerNumber returned rowsOf
   tells (plan ss) h short =
       let k = short ss refl in
       let c = costs-few t (v .tenths) ss in
@@ -127,11 +127,11 @@ module _ (s : List ℕ) (room : ℕ) (cuts rows₀ : List ℕ) {r : ℕ} {cuts�
   -- kind 0 is a refusal, exactly
   pub kind-refused : (R ≡ 0 → ⊥) → kind r ≡ 0
   kind-refused z =
-      let e : r ≡ R = ap (λ (x : RunOutcome). x .answer) (done ∙ entry-refused s room cuts rows₀ z) in
+      let e : r ≡ R = ap (λ (x : RunEntryOutcome). x .answer) (done ∙ entry-refused s room cuts rows₀ z) in
       omega (arith, run-byte s room (valuesOn cuts) (valuesOn rows₀))
 
   -- a run that was made
-  pub record Made : Type 0 where
+  pub record EntryMade : Type 0 where
     pub model : Accepted t
     pub some : 1 ≤ room
     pub few : room ≤ limits .blocks
@@ -151,21 +151,21 @@ module _ (s : List ℕ) (room : ℕ) (cuts rows₀ : List ℕ) {r : ℕ} {cuts�
   room-inside z = inside-means 1 (limits .blocks) room (passed 7 (outside 1 (limits .blocks) room) _ (λ y. omega arith) (neither (refusal (sheetChecks s)) _ (sym (refusal-append (sheetChecks s) _) ∙ z) .1) .0)
 
   -- where no check applies, the run is made
-  pub entry-ran : R ≡ 0 → Made
+  pub entry-ran : R ≡ 0 → EntryMade
   entry-ran z =
       let v = accepted-model z in
       let f = room-inside z in
       let o = run.run t room in
       let w = run-right t v room (f .0) in
       let fit : length (o .made) + 1 ≤ room = omega (arith, w .fits) in
-      let e : r ≡ answerNumber (told t (length (o .made) + 1) (o .answer)) = ap (λ (x : RunOutcome). x .answer) (done ∙ entry-made s room cuts rows₀ z) ∙ (unfold madeBytes run.blockCount in refl) in
-      let l : rows′ ≡ over (bytesOf (listed rowPlace (rowsOf t (o .answer)))) rows₀ = ap (λ (x : RunOutcome). x .rows) (done ∙ entry-made s room cuts rows₀ z) ∙ (unfold madeBytes in refl) in
+      let e : r ≡ answerNumber (returned t (length (o .made) + 1) (o .answer)) = ap (λ (x : RunEntryOutcome). x .answer) (done ∙ entry-made s room cuts rows₀ z) ∙ (unfold madeBytes run.blockCount in refl) in
+      let l : rows′ ≡ over (bytesOf (listed rowPlace (rowsOf t (o .answer)))) rows₀ = ap (λ (x : RunEntryOutcome). x .rows) (done ∙ entry-made s room cuts rows₀ z) ∙ (unfold madeBytes in refl) in
       record {
         model = v;
         some = f .0;
         few = f .1;
         made = o .made;
-        listed-cuts = ap (λ (x : RunOutcome). x .cuts) (done ∙ entry-made s room cuts rows₀ z) ∙ (unfold madeBytes in refl);
+        listed-cuts = ap (λ (x : RunEntryOutcome). x .cuts) (done ∙ entry-made s room cuts rows₀ z) ∙ (unfold madeBytes in refl);
         ok = w .made;
         flaws = one-per-flaw t room o w;
         within = fit;
@@ -173,12 +173,12 @@ module _ (s : List ℕ) (room : ℕ) (cuts rows₀ : List ℕ) {r : ℕ} {cuts�
       }
 
   -- any other kind
-  pub entry-says : (kind r ≡ 0 → ⊥) → Made
+  pub entry-says : (kind r ≡ 0 → ⊥) → EntryMade
   entry-says k = split (ℕ-discrete R 0)
     where
-      split : Dec (R ≡ 0) → Made
+      split : Dec (R ≡ 0) → EntryMade
       split (no z) = absurd (k (kind-refused z))
       split (yes z) = entry-ran z
 
-  pub never-falls : (m : Made) (before after : List Cut) (c : Cut) → m .made ≡ before ++ (c ∷ after) → (x : State) → isState t x ≡ true → NoMore (estimate t before x) (estimate t (before ++ (c ∷ [])) x)
+  pub never-falls : (m : EntryMade) (before after : List Cut) (c : Cut) → m .made ≡ before ++ (c ∷ after) → (x : State) → isState t x ≡ true → NoMore (estimate t before x) (estimate t (before ++ (c ∷ [])) x)
   never-falls m = none-falls t (m .model) (m .made) (m .ok)

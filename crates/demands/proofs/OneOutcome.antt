@@ -33,10 +33,10 @@ pub read-model-one : (sheet frame costs marks : List ℕ) {r r′ : ModelRead} {
     → (r ≡ r′) × (f ≡ f′) × (c ≡ c′) × (m ≡ m′)
 read-model-one sheet frame costs marks p q =
     let e = p ∙ sym q in (
-      ap (λ (o : reading.Outcome). o .answer) e,
-      ap (λ (o : reading.Outcome). o .frame) e,
-      ap (λ (o : reading.Outcome). o .costs) e,
-      ap (λ (o : reading.Outcome). o .marks) e,
+      ap (λ (o : reading.ReadOutcome). o .answer) e,
+      ap (λ (o : reading.ReadOutcome). o .frame) e,
+      ap (λ (o : reading.ReadOutcome). o .costs) e,
+      ap (λ (o : reading.ReadOutcome). o .marks) e,
     )
 
 -- write_model
@@ -46,7 +46,7 @@ pub write-model-one : (columns steps : ℕ) (frame costs marks sheet : List ℕ)
     → (r ≡ r′) × (s ≡ s′)
 write-model-one columns steps frame costs marks sheet p q =
     let e = p ∙ sym q in
-    (ap (λ (o : writing.Outcome). o .answer) e, ap (λ (o : writing.Outcome). o .sheet) e)
+    (ap (λ (o : writing.WriteOutcome). o .answer) e, ap (λ (o : writing.WriteOutcome). o .sheet) e)
 
 -- rebuild
 pub rebuild-one : (model sheet cuts : List ℕ) {r r′ : CutsRebuilt} {c c′ : List ℕ}
@@ -55,7 +55,7 @@ pub rebuild-one : (model sheet cuts : List ℕ) {r r′ : CutsRebuilt} {c c′ :
     → (r ≡ r′) × (c ≡ c′)
 rebuild-one model sheet cuts p q =
     let e = p ∙ sym q in
-    (ap (λ (o : rebuilding.Outcome). o .answer) e, ap (λ (o : rebuilding.Outcome). o .cuts) e)
+    (ap (λ (o : rebuilding.RebuildOutcome). o .answer) e, ap (λ (o : rebuilding.RebuildOutcome). o .cuts) e)
 
 -- write_cuts
 pub write-cuts-one : (model : List ℕ) (count : ℕ) (cuts sheet : List ℕ) {r r′ : CutsWritten} {s s′ : List ℕ}
@@ -64,7 +64,7 @@ pub write-cuts-one : (model : List ℕ) (count : ℕ) (cuts sheet : List ℕ) {r
     → (r ≡ r′) × (s ≡ s′)
 write-cuts-one model count cuts sheet p q =
     let e = p ∙ sym q in
-    (ap (λ (o : cutWriting.Outcome). o .answer) e, ap (λ (o : cutWriting.Outcome). o .sheet) e)
+    (ap (λ (o : cutWriting.WriteCutsOutcome). o .answer) e, ap (λ (o : cutWriting.WriteCutsOutcome). o .sheet) e)
 
 -- question
 pub question-one : (model sheet states estimates : List ℕ) {r r′ : Asked} {l l′ : List ℕ}
@@ -73,7 +73,7 @@ pub question-one : (model sheet states estimates : List ℕ) {r r′ : Asked} {l
     → (r ≡ r′) × (l ≡ l′)
 question-one model sheet states estimates p q =
     let e = p ∙ sym q in
-    (ap (λ (o : question.Outcome). o .answer) e, ap (λ (o : question.Outcome). o .estimates) e)
+    (ap (λ (o : question.QuestionOutcome). o .answer) e, ap (λ (o : question.QuestionOutcome). o .estimates) e)
 
 -- run
 pub run-one : (sheet : List ℕ) (room : ℕ) (cuts rows : List ℕ) {r r′ : Answer} {c c′ l l′ : List ℕ}
@@ -82,7 +82,7 @@ pub run-one : (sheet : List ℕ) (room : ℕ) (cuts rows : List ℕ) {r r′ : A
     → (r ≡ r′) × (c ≡ c′) × (l ≡ l′)
 run-one sheet room cuts rows p q =
     let e = p ∙ sym q in
-    (ap (λ (o : running.Outcome). o .answer) e, ap (λ (o : running.Outcome). o .cuts) e, ap (λ (o : running.Outcome). o .rows) e)
+    (ap (λ (o : running.RunOutcome). o .answer) e, ap (λ (o : running.RunOutcome). o .cuts) e, ap (λ (o : running.RunOutcome). o .rows) e)
 
 -- replay
 pub replay-one : (model sheet log : List ℕ) (rows : List ℤ) {r r′ : Replayed} {l l′ : List ℤ}
@@ -91,7 +91,7 @@ pub replay-one : (model sheet log : List ℕ) (rows : List ℤ) {r r′ : Replay
     → (r ≡ r′) × (l ≡ l′)
 replay-one model sheet log rows p q =
     let e = p ∙ sym q in
-    (ap (λ (o : replay.Outcome). o .answer) e, ap (λ (o : replay.Outcome). o .rows) e)
+    (ap (λ (o : replay.ReplayOutcome). o .answer) e, ap (λ (o : replay.ReplayOutcome). o .rows) e)
 
 -- ---- the historian
 
@@ -102,7 +102,7 @@ pub elhavir-run-one : (sheet : List ℕ) (room : ℕ) (cuts rows : List ℕ) {r 
     → (r ≡ r′) × (c ≡ c′) × (l ≡ l′)
 elhavir-run-one sheet room cuts rows p q =
     let e = p ∙ sym q in
-    (ap (λ (o : entries.RunOutcome). o .answer) e, ap (λ (o : entries.RunOutcome). o .cuts) e, ap (λ (o : entries.RunOutcome). o .rows) e)
+    (ap (λ (o : entries.RunEntryOutcome). o .answer) e, ap (λ (o : entries.RunEntryOutcome). o .cuts) e, ap (λ (o : entries.RunEntryOutcome). o .rows) e)
 
 -- elhavir_question
 pub elhavir-question-one : (model sheet states estimates : List ℕ) {r r′ : ℕ} {l l′ : List ℕ}
@@ -111,7 +111,7 @@ pub elhavir-question-one : (model sheet states estimates : List ℕ) {r r′ : �
     → (r ≡ r′) × (l ≡ l′)
 elhavir-question-one model sheet states estimates p q =
     let e = p ∙ sym q in
-    (ap (λ (o : entries.AskOutcome). o .answer) e, ap (λ (o : entries.AskOutcome). o .estimates) e)
+    (ap (λ (o : entries.AskEntryOutcome). o .answer) e, ap (λ (o : entries.AskEntryOutcome). o .estimates) e)
 
 -- elhavir_replay
 pub elhavir-replay-one : (model sheet log rows : List ℕ) {r r′ : ℕ} {l l′ : List ℕ}
@@ -120,7 +120,7 @@ pub elhavir-replay-one : (model sheet log rows : List ℕ) {r r′ : ℕ} {l l�
     → (r ≡ r′) × (l ≡ l′)
 elhavir-replay-one model sheet log rows p q =
     let e = p ∙ sym q in
-    (ap (λ (o : replayEntry.ReplayOutcome). o .answer) e, ap (λ (o : replayEntry.ReplayOutcome). o .rows) e)
+    (ap (λ (o : replayEntry.ReplayEntryOutcome). o .answer) e, ap (λ (o : replayEntry.ReplayEntryOutcome). o .rows) e)
 
 -- ---- 01, "Refusal numbers": "Input places beyond a writer's counts are not read." Tables that agree on the first places, as many as the counts say, leave the
 -- same one outcome, refusals too. They agree when `take` gives the same of both, so that one ends before these places where the other does.

@@ -30,7 +30,7 @@ use Rattle.run.specs.Run as run
 use Rattle.run.specs.Run.{plan, noPlan, «open»}
 use Rattle.run.proofs.RunLaws.{Right, run-right}
 use Rattle.running.specs.declared.Answer.the-variants.{Refused}
-use Rattle.running.specs.Running.{told}
+use Rattle.running.specs.Running.{returned}
 use Rattle.lines.specs.Lines.{outputBytes, width, decimal, labelled, firstLine, madeLines, ranLines, printed, Prints}
 use Rattle.lines.proofs.LengthLaws.{printed-fits, ran-accepted}
 use Rattle.demands.specs.Files.{roomIn, sheetIn, fileChecks, digitsOn, refusalOn}
@@ -59,8 +59,8 @@ unfolding over
 text-shown lines out = take-append-seam lines (drop (length lines) out)
 
 -- the lines of a run tell none
-run-tells : (t : Task) (b : ℕ) (a : run.Answer) (rows : List ℕ) → refusalOn (firstLine (told t b a) ++ rows) ≡ 0
-unfolding refusalOn told firstLine labelled
+run-tells : (t : Task) (b : ℕ) (a : run.Answer) (rows : List ℕ) → refusalOn (firstLine (returned t b a) ++ rows) ≡ 0
+unfolding refusalOn returned firstLine labelled
 run-tells t b (plan ss) rows = refl
 run-tells t b noPlan rows = refl
 run-tells t b («open» e) rows = refl

@@ -61,18 +61,18 @@ use Rattle.run.specs.Listing.{listed, rowPlace}
 use Rattle.running.specs.declared.Answer.{Answer}
 use Rattle.running.specs.declared.Answer.the-variants as answer
 use Rattle.running.specs.Running as running
-use Rattle.running.specs.Running.{told}
+use Rattle.running.specs.Running.{returned}
 use Rattle.rows.specs.Rows as rows
 use Rattle.rows.specs.Rows.{rowChecks, rowRun, RowRuns}
-use Rattle.historian.specs.Entries.{answerNumber, entryChecks, RunOutcome, runOutcome, madeBytes, runEntry, askChecks, AskOutcome, askOutcome, askEntry, EntryRuns, EntryAsks}
-use Rattle.historian.specs.ReplayEntry.{replayNumber, replayEntryChecks, ReplayOutcome, replayOutcome, replayEntry, EntryReplays}
+use Rattle.historian.specs.Entries.{answerNumber, entryChecks, RunEntryOutcome, runEntryOutcome, madeBytes, runEntry, askChecks, AskEntryOutcome, askEntryOutcome, askEntry, EntryRuns, EntryAsks}
+use Rattle.historian.specs.ReplayEntry.{replayNumber, replayEntryChecks, ReplayEntryOutcome, replayEntryOutcome, replayEntry, EntryReplays}
 use Rattle.demands.proofs.RefusalNumbers.{sheetNumbers, read-gives, write-gives, rebuildNumbers, rebuild-gives, cutNumbers, write-cuts-gives}
 use Rattle.demands.proofs.RefusalNumbers.{questionNumbers, question-gives, replayNumbers, replay-gives, replay-byte, runNumbers, run-gives, run-byte}
 
 -- ---- read_model
 module _ (s frame costs marks : List ℕ) {r : ModelRead} {f c m : List ℕ} (done : reading.ReadsModel s frame costs marks r f c m) where
-  pub read-model-judged : Judged (λ (o : reading.Outcome). reading.number (o .answer)) (λ n. reading.outcome (read.Refused n) frame costs marks) (readChecks s frame costs marks)
-      (reading.outcome (read.Held (columnsOf s) (stepsOf s)) (over (frameOf (ofSheet s)) frame) (over (costsOf (ofSheet s)) costs) (over (marksOf (ofSheet s)) marks)) (reading.outcome r f c m)
+  pub read-model-judged : Judged (λ (o : reading.ReadOutcome). reading.number (o .answer)) (λ n. reading.readOutcome (read.Refused n) frame costs marks) (readChecks s frame costs marks)
+      (reading.readOutcome (read.Held (columnsOf s) (stepsOf s)) (over (frameOf (ofSheet s)) frame) (over (costsOf (ofSheet s)) costs) (over (marksOf (ofSheet s)) marks)) (reading.readOutcome r f c m)
   read-model-judged = subst (Judged _ _ _ _) (sym done) (sheet.reader s frame costs marks)
 
   pub read-model-numbers : has sheetNumbers (reading.number r) ≡ true
@@ -83,8 +83,8 @@ module _ (columns steps : ℕ) (frame costs marks sheet₀ : List ℕ) {r : Shee
   abbrev P : Source
   P = ofTables columns steps frame costs marks
 
-  pub write-model-judged : Judged (λ (o : writing.Outcome). writing.number (o .answer)) (λ n. writing.outcome (written.Refused n) sheet₀) (writeChecks P sheet₀)
-      (writing.outcome (written.Sheet (modelBytes (columnsIn P) (stepsIn P))) (over (sheetOf (entries P)) sheet₀)) (writing.outcome r s)
+  pub write-model-judged : Judged (λ (o : writing.WriteOutcome). writing.number (o .answer)) (λ n. writing.writeOutcome (written.Refused n) sheet₀) (writeChecks P sheet₀)
+      (writing.writeOutcome (written.Sheet (modelBytes (columnsIn P) (stepsIn P))) (over (sheetOf (entries P)) sheet₀)) (writing.writeOutcome r s)
   write-model-judged = subst (Judged _ _ _ _) (sym done) (sheet.writer P sheet₀)
 
   pub write-model-numbers : has sheetNumbers (writing.number r) ≡ true
@@ -92,8 +92,8 @@ module _ (columns steps : ℕ) (frame costs marks sheet₀ : List ℕ) {r : Shee
 
 -- ---- rebuild
 module _ (model s cuts : List ℕ) {r : CutsRebuilt} {c : List ℕ} (done : rebuilding.Rebuilds model s cuts r c) where
-  pub rebuild-judged : Judged (λ (o : rebuilding.Outcome). rebuilding.number (o .answer)) (λ n. rebuilding.outcome (rebuilt.Refused n) cuts) (rebuildChecks model s cuts)
-      (rebuilding.outcome (rebuilt.Cuts (countOf (tailOf s))) (over (cutList s) cuts)) (rebuilding.outcome r c)
+  pub rebuild-judged : Judged (λ (o : rebuilding.RebuildOutcome). rebuilding.number (o .answer)) (λ n. rebuilding.rebuildOutcome (rebuilt.Refused n) cuts) (rebuildChecks model s cuts)
+      (rebuilding.rebuildOutcome (rebuilt.Cuts (countOf (tailOf s))) (over (cutList s) cuts)) (rebuilding.rebuildOutcome r c)
   rebuild-judged = subst (Judged _ _ _ _) (sym done) (cut.rebuilder model s cuts)
 
   pub rebuild-numbers : has rebuildNumbers (rebuilding.number r) ≡ true
@@ -101,8 +101,8 @@ module _ (model s cuts : List ℕ) {r : CutsRebuilt} {c : List ℕ} (done : rebu
 
 -- ---- write_cuts
 module _ (model : List ℕ) (count : ℕ) (cuts sheet₀ : List ℕ) {r : CutsWritten} {s : List ℕ} (done : cutWriting.WritesCuts model count cuts sheet₀ r s) where
-  pub write-cuts-judged : Judged (λ (o : cutWriting.Outcome). cutWriting.number (o .answer)) (λ n. cutWriting.outcome (cutsWritten.Refused n) sheet₀) (writeCutsChecks model count cuts sheet₀)
-      (cutWriting.outcome (cutsWritten.Sheet (length model + cutBytes count)) (over (cutSheetOf model count cuts) sheet₀)) (cutWriting.outcome r s)
+  pub write-cuts-judged : Judged (λ (o : cutWriting.WriteCutsOutcome). cutWriting.number (o .answer)) (λ n. cutWriting.writeCutsOutcome (cutsWritten.Refused n) sheet₀) (writeCutsChecks model count cuts sheet₀)
+      (cutWriting.writeCutsOutcome (cutsWritten.Sheet (length model + cutBytes count)) (over (cutSheetOf model count cuts) sheet₀)) (cutWriting.writeCutsOutcome r s)
   write-cuts-judged = subst (Judged _ _ _ _) (sym done) (cut.writer model count cuts sheet₀)
 
   pub write-cuts-numbers : has cutNumbers (cutWriting.number r) ≡ true
@@ -110,8 +110,8 @@ module _ (model : List ℕ) (count : ℕ) (cuts sheet₀ : List ℕ) {r : CutsWr
 
 -- ---- question
 module _ (model s states est : List ℕ) {r : Asked} {l : List ℕ} (done : question.Asks model s states est r l) where
-  pub question-judged : Judged (λ (o : question.Outcome). question.number (o .answer)) (λ n. question.outcome (answered.Refused n) est) (question.questionChecks model s states est)
-      (question.outcome (answered.Estimates (statesIn (taskOn model) states)) (over (estimatesOf (taskOn model) (cutsOf s) states) est)) (question.outcome r l)
+  pub question-judged : Judged (λ (o : question.QuestionOutcome). question.number (o .answer)) (λ n. question.questionOutcome (answered.Refused n) est) (question.questionChecks model s states est)
+      (question.questionOutcome (answered.Estimates (statesIn (taskOn model) states)) (over (estimatesOf (taskOn model) (cutsOf s) states) est)) (question.questionOutcome r l)
   question-judged = subst (Judged _ _ _ _) (sym done) (asked.asker model s states est)
 
   pub question-numbers : has questionNumbers (question.number r) ≡ true
@@ -119,9 +119,9 @@ module _ (model s states est : List ℕ) {r : Asked} {l : List ℕ} (done : ques
 
 -- ---- replay
 module _ (model s log : List ℕ) (rs : List ℤ) {r : Replayed} {l : List ℤ} (done : replay.Replays model s log rs r l) where
-  pub replay-judged : Judged (λ (o : replay.Outcome). replay.number (o .answer)) (λ n. replay.outcome (replay.refused (taskOn model) log n) rs)
+  pub replay-judged : Judged (λ (o : replay.ReplayOutcome). replay.number (o .answer)) (λ n. replay.replayOutcome (replay.refused (taskOn model) log n) rs)
       (replay.replayChecks model s log rs)
-      (replay.outcome (replayed.Rows (length log)) (over (rowList (taskOn model) (cutsOf s) log) rs)) (replay.outcome r l)
+      (replay.replayOutcome (replayed.Rows (length log)) (over (rowList (taskOn model) (cutsOf s) log) rs)) (replay.replayOutcome r l)
   replay-judged = subst (Judged _ _ _ _) (sym done) (replays.replayer model s log rs)
 
   pub replay-numbers : has replayNumbers (replay.number r) ≡ true
@@ -129,8 +129,8 @@ module _ (model s log : List ℕ) (rs : List ℤ) {r : Replayed} {l : List ℤ} 
 
 -- ---- run
 module _ (s : List ℕ) (room : ℕ) (cuts rs : List ℕ) {r : Answer} {c l : List ℕ} (done : running.Runs s room cuts rs r c l) where
-  pub run-judged : Judged (λ (o : running.Outcome). running.number (o .answer)) (λ n. running.outcome (answer.Refused n) cuts rs) (running.runChecks s room cuts rs)
-      (running.made (taskOn s) (run.run (taskOn s) room) cuts rs) (running.outcome r c l)
+  pub run-judged : Judged (λ (o : running.RunOutcome). running.number (o .answer)) (λ n. running.runOutcome (answer.Refused n) cuts rs) (running.runChecks s room cuts rs)
+      (running.made (taskOn s) (run.run (taskOn s) room) cuts rs) (running.runOutcome r c l)
   run-judged = subst (Judged _ _ _ _) (sym done) (ran.runner s room cuts rs)
 
   pub run-numbers : has runNumbers (running.number r) ≡ true
@@ -138,10 +138,10 @@ module _ (s : List ℕ) (room : ℕ) (cuts rs : List ℕ) {r : Answer} {c l : Li
 
 -- ---- the run of crate rows
 module _ (s : List ℕ) (room : ℕ) (cuts : List ℕ) (rs : List Row) where
-  abbrev rowsMade : rows.Outcome
-  rowsMade = let o = run.run (taskOn s) room in rows.outcome (told (taskOn s) (run.blockCount o) (o .answer)) (over (listed cutPlace (o .made)) cuts) (over (run.rowsOf (taskOn s) (o .answer)) rs)
+  abbrev rowsMade : rows.RowRunOutcome
+  rowsMade = let o = run.run (taskOn s) room in rows.rowRunOutcome (returned (taskOn s) (run.blockCount o) (o .answer)) (over (listed cutPlace (o .made)) cuts) (over (run.rowsOf (taskOn s) (o .answer)) rs)
 
-  row-runner : Judged (λ (o : rows.Outcome). running.number (o .answer)) (λ n. rows.outcome (answer.Refused n) cuts rs) (rowChecks s room cuts rs) rowsMade (rowRun s room cuts rs)
+  row-runner : Judged (λ (o : rows.RowRunOutcome). running.number (o .answer)) (λ n. rows.rowRunOutcome (answer.Refused n) cuts rs) (rowChecks s room cuts rs) rowsMade (rowRun s room cuts rs)
   unfolding rowRun running.number
   row-runner =
       let t = taskOn s in
@@ -149,7 +149,7 @@ module _ (s : List ℕ) (room : ℕ) (cuts : List ℕ) (rs : List Row) where
       (ran.told-number t (run.blockCount (run.run t room)) (run.run t room .answer)) refl
 
   module _ {a : Answer} {c : List ℕ} {l : List Row} (done : RowRuns s room cuts rs a c l) where
-    pub row-run-judged : Judged (λ (o : rows.Outcome). running.number (o .answer)) (λ n. rows.outcome (answer.Refused n) cuts rs) (rowChecks s room cuts rs) rowsMade (rows.outcome a c l)
+    pub row-run-judged : Judged (λ (o : rows.RowRunOutcome). running.number (o .answer)) (λ n. rows.rowRunOutcome (answer.Refused n) cuts rs) (rowChecks s room cuts rs) rowsMade (rows.rowRunOutcome a c l)
     row-run-judged = subst (Judged _ _ _ _) (sym done) row-runner
 
     pub row-run-numbers : has runNumbers (running.number a) ≡ true
@@ -159,8 +159,8 @@ module _ (s : List ℕ) (room : ℕ) (cuts : List ℕ) (rs : List Row) where
 abbrev pub refusalIn : ℕ → ℕ
 refusalIn r = cond (ltb r (2 ^ 56)) r 0
 
-large : (t : Task) (b : ℕ) (a : run.Answer) → 2 ^ 56 ≤ answerNumber (told t b a)
-unfolding answerNumber told
+large : (t : Task) (b : ℕ) (a : run.Answer) → 2 ^ 56 ≤ answerNumber (returned t b a)
+unfolding answerNumber returned
 large t b (plan ss) = omega arith
 large t b noPlan = omega arith
 large t b («open» e) = omega arith
@@ -173,21 +173,21 @@ module _ (s : List ℕ) (room : ℕ) (cuts rs : List ℕ) where
   unfolding runEntry
   entry-made z = simp (eq-eqb R 0 z)
 
-  pub entry-refused : (R ≡ 0 → ⊥) → runEntry s room cuts rs ≡ runOutcome R cuts rs
+  pub entry-refused : (R ≡ 0 → ⊥) → runEntry s room cuts rs ≡ runEntryOutcome R cuts rs
   unfolding runEntry
   entry-refused z = simp (ne-eqb R 0 z)
 
-  entry-runner : Judged (λ (o : RunOutcome). refusalIn (o .answer)) (λ n. runOutcome n cuts rs) (entryChecks s room cuts rs) (madeBytes (taskOn s) (run.run (taskOn s) room) cuts rs) (runEntry s room cuts rs)
+  entry-runner : Judged (λ (o : RunEntryOutcome). refusalIn (o .answer)) (λ n. runEntryOutcome n cuts rs) (entryChecks s room cuts rs) (madeBytes (taskOn s) (run.run (taskOn s) room) cuts rs) (runEntry s room cuts rs)
   unfolding runEntry madeBytes
   entry-runner =
       let o = run.run (taskOn s) room in
-      let v = answerNumber (told (taskOn s) (run.blockCount o) (o .answer)) in
+      let v = answerNumber (returned (taskOn s) (run.blockCount o) (o .answer)) in
       judges _ _ ran.numbers refl (entryChecks s room cuts rs) (ran.run-numbers s room (valuesOn cuts) (valuesOn rs)) _
       (ap (λ (b : Bool). cond b v 0) (le-ltb v (2 ^ 56) (large (taskOn s) (run.blockCount o) (o .answer))))
       (ap (λ (b : Bool). cond b R 0) (lt-ltb R (2 ^ 56) (omega (arith, run-byte s room (valuesOn cuts) (valuesOn rs)))))
 
   module _ {r : ℕ} {c l : List ℕ} (done : EntryRuns s room cuts rs r c l) where
-    pub elhavir-run-judged : Judged (λ (o : RunOutcome). refusalIn (o .answer)) (λ n. runOutcome n cuts rs) (entryChecks s room cuts rs) (madeBytes (taskOn s) (run.run (taskOn s) room) cuts rs) (runOutcome r c l)
+    pub elhavir-run-judged : Judged (λ (o : RunEntryOutcome). refusalIn (o .answer)) (λ n. runEntryOutcome n cuts rs) (entryChecks s room cuts rs) (madeBytes (taskOn s) (run.run (taskOn s) room) cuts rs) (runEntryOutcome r c l)
     elhavir-run-judged = subst (Judged _ _ _ _) (sym done) entry-runner
 
     pub elhavir-run-numbers : has runNumbers (refusalIn r) ≡ true
@@ -195,15 +195,15 @@ module _ (s : List ℕ) (room : ℕ) (cuts rs : List ℕ) where
 
 -- ---- elhavir_question: 0 when done, else the refusal's number
 module _ (model s states est : List ℕ) where
-  abbrev pub asked-made : AskOutcome
-  asked-made = askOutcome 0 (over (bytesOf (estimatesOf (taskOn model) (cutsOf s) states)) est)
+  abbrev pub asked-made : AskEntryOutcome
+  asked-made = askEntryOutcome 0 (over (bytesOf (estimatesOf (taskOn model) (cutsOf s) states)) est)
 
-  pub entry-asker : Judged (λ (o : AskOutcome). o .answer) (λ n. askOutcome n est) (askChecks model s states est) asked-made (askEntry model s states est)
+  pub entry-asker : Judged (λ (o : AskEntryOutcome). o .answer) (λ n. askEntryOutcome n est) (askChecks model s states est) asked-made (askEntry model s states est)
   unfolding askEntry
   entry-asker = judges _ _ asked.numbers refl (askChecks model s states est) (asked.question-numbers model s states (valuesOn est)) _ refl refl
 
   module _ {r : ℕ} {l : List ℕ} (done : EntryAsks model s states est r l) where
-    pub elhavir-question-judged : Judged (λ (o : AskOutcome). o .answer) (λ n. askOutcome n est) (askChecks model s states est) asked-made (askOutcome r l)
+    pub elhavir-question-judged : Judged (λ (o : AskEntryOutcome). o .answer) (λ n. askEntryOutcome n est) (askChecks model s states est) asked-made (askEntryOutcome r l)
     elhavir-question-judged = subst (Judged _ _ _ _) (sym done) entry-asker
 
     pub elhavir-question-numbers : has questionNumbers r ≡ true
@@ -246,10 +246,10 @@ module _ (model s log rs : List ℕ) where
           refusal-low (badRow (taskOn model) steps * 2 ^ 32 + 14) (omega (arith, row-few e)) ∙ omega (arith, e)
       split false h = let b = replay-byte model s steps (valuesOn rs) in refusal-low Q (omega (arith, b)) ∙ omega (arith, b)
 
-  abbrev rows-made : ReplayOutcome
-  rows-made = replayOutcome (replayNumber (replayed.Rows (length steps))) (over (signedBytes (rowList (taskOn model) (cutsOf s) steps)) rs)
+  abbrev rows-made : ReplayEntryOutcome
+  rows-made = replayEntryOutcome (replayNumber (replayed.Rows (length steps))) (over (signedBytes (rowList (taskOn model) (cutsOf s) steps)) rs)
 
-  entry-replayer : Judged (λ (o : ReplayOutcome). replayRefusal (o .answer)) (λ n. replayOutcome (replayNumber (replay.refused (taskOn model) steps n)) rs)
+  entry-replayer : Judged (λ (o : ReplayEntryOutcome). replayRefusal (o .answer)) (λ n. replayEntryOutcome (replayNumber (replay.refused (taskOn model) steps n)) rs)
       (replayEntryChecks model s log rs) rows-made (replayEntry model s log rs)
   unfolding replayEntry replayNumber
   entry-replayer =
@@ -257,9 +257,9 @@ module _ (model s log rs : List ℕ) where
       (refusal-none (replayNumber (replayed.Rows (length steps))) (omega arith)) told-back
 
   module _ {r : ℕ} {l : List ℕ} (done : EntryReplays model s log rs r l) where
-    pub elhavir-replay-judged : Judged (λ (o : ReplayOutcome). replayRefusal (o .answer))
-        (λ n. replayOutcome (replayNumber (replay.refused (taskOn model) steps n)) rs)
-        (replayEntryChecks model s log rs) rows-made (replayOutcome r l)
+    pub elhavir-replay-judged : Judged (λ (o : ReplayEntryOutcome). replayRefusal (o .answer))
+        (λ n. replayEntryOutcome (replayNumber (replay.refused (taskOn model) steps n)) rs)
+        (replayEntryChecks model s log rs) rows-made (replayEntryOutcome r l)
     elhavir-replay-judged = subst (Judged _ _ _ _) (sym done) entry-replayer
 
     pub elhavir-replay-numbers : has replayNumbers (replayRefusal r) ≡ true

@@ -21,7 +21,7 @@ use Rattle.cut_sheets.specs.CutSheet.{cutsOf}
 use Rattle.values.specs.Values.{valueOn, valuesOn, twos, signedBytes}
 use Rattle.replay.specs.declared.Replayed.{Replayed}
 use Rattle.replay.specs.declared.Replayed.the-variants.{Rows, Stopped, Refused}
-use Rattle.replay.specs.Replay.{stepAt, before, badRow, rowValues, rowList, replayChecks, number, rowNamed, refused, Outcome, Replays}
+use Rattle.replay.specs.Replay.{stepAt, before, badRow, rowValues, rowList, replayChecks, number, rowNamed, refused, ReplayOutcome, Replays}
 use Rattle.replay.proofs.SignedLaws.{below}
 use Rattle.replay.proofs.LogLaws.{GoodRow, good-row, bad-row, bad-first}
 use Rattle.replay.proofs.RowLaws.{rows-length, value-at}
@@ -29,7 +29,7 @@ use Rattle.replay.proofs.PlanLaws.{stepsOf, plan-goal}
 use Rattle.replay_laws.proofs.Refusals.{Passed, quiet, stopped-bad}
 use Rattle.replay_laws.proofs.Rows as said
 use Rattle.replay_laws.proofs.Rows.{HasRows, RowsRight, GoalReached}
-use Rattle.historian.specs.ReplayEntry.{replayNumber, replayEntryChecks, ReplayOutcome, replayOutcome, EntryReplays}
+use Rattle.historian.specs.ReplayEntry.{replayNumber, replayEntryChecks, ReplayEntryOutcome, replayEntryOutcome, EntryReplays}
 use Rattle.demands.proofs.Numbers.{kind, steps, value, Parts, takes-apart, value-back}
 use Rattle.demands.proofs.RefusalNumbers.{replay-byte}
 use Rattle.demands.proofs.Refusals.{replay-judged, row-bad, row-few, elhavir-replay-judged}
@@ -53,7 +53,7 @@ module _ (model s log : List ℕ) (rows : List ℤ) {l : List ℤ} where
   -- 14 is told as the row
   pub replay-fourteen : {r : Replayed} → Replays model s log rows r l → number r ≡ 14 → r ≡ Stopped (badRow (taskOn model) log)
   unfolding refused
-  replay-fourteen done e = ap (λ (o : Outcome). o .answer) (replay-judged model s log rows done .leaves 14 (λ z. omega arith) e)
+  replay-fourteen done e = ap (λ (o : ReplayOutcome). o .answer) (replay-judged model s log rows done .leaves 14 (λ z. omega arith) e)
 
   pub replay-row : {k : ℕ} → Replays model s log rows (Stopped k) l → StoppedAt (taskOn model) log k
   unfolding number rowNamed
@@ -124,11 +124,11 @@ module _ (model s log rows : List ℕ) {r : ℕ} {l : List ℕ} (done : EntryRep
   Q = refusal (replayEntryChecks model s log rows)
 
   -- a replay that is done, and the answer number of one that is refused
-  made : Q ≡ 0 → replayOutcome r l ≡ replayOutcome (replayNumber (Rows (length taken-steps))) (over (signedBytes (rowList t (cutsOf s) taken-steps)) rows)
+  made : Q ≡ 0 → replayEntryOutcome r l ≡ replayEntryOutcome (replayNumber (Rows (length taken-steps))) (over (signedBytes (rowList t (cutsOf s) taken-steps)) rows)
   made z = let j = elhavir-replay-judged model s log rows done in j .done (j .told ∙ z)
 
   refused-number : (Q ≡ 0 → ⊥) → r ≡ replayNumber (refused t taken-steps Q)
-  refused-number z = let j = elhavir-replay-judged model s log rows done in ap (λ (o : ReplayOutcome). o .answer) (j .leaves Q z (j .told))
+  refused-number z = let j = elhavir-replay-judged model s log rows done in ap (λ (o : ReplayEntryOutcome). o .answer) (j .leaves Q z (j .told))
 
   stopped-number : Q ≡ 14 → r ≡ badRow t taken-steps * 2 ^ 32 + 14
   unfolding refused replayNumber
@@ -146,7 +146,7 @@ module _ (model s log rows : List ℕ) {r : ℕ} {l : List ℕ} (done : EntryRep
   unfolding replayNumber
   parts-done z =
       let n = length taken-steps in
-      let e : r ≡ 1 * 2 ^ 56 + 0 * 2 ^ 44 + n * 2 ^ 32 + 0 = ap (λ (o : ReplayOutcome). o .answer) (made z) ∙ omega arith in
+      let e : r ≡ 1 * 2 ^ 56 + 0 * 2 ^ 44 + n * 2 ^ 32 + 0 = ap (λ (o : ReplayEntryOutcome). o .answer) (made z) ∙ omega arith in
       subst⁻¹ (λ (x : ℕ). Parts x 1 0 n 0) e (takes-apart 1 0 n 0 (omega arith) (omega (arith, checked z .short)) (omega arith))
 
   -- refused: kind 0, the number as the value, and for 14 the row in the field of the steps
@@ -219,7 +219,7 @@ module _ (model s log rows : List ℕ) {r : ℕ} {l : List ℕ} (done : EntryRep
     zs = rowList t (cutsOf s) taken-steps
 
     written : l ≡ over (signedBytes zs) rows
-    written = ap (λ (o : ReplayOutcome). o .rows) (made (quiet-kind k))
+    written = ap (λ (o : ReplayEntryOutcome). o .rows) (made (quiet-kind k))
 
     -- value j of row i, which its four bytes give back
     pub entry-replay-value : HasRows t (cutsOf s) taken-steps (signedOn l)

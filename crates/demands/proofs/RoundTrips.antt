@@ -56,7 +56,7 @@ stepsTold (Held n m) = m
 stepsTold (NotRead k) = 0
 
 -- the tables that a reader has filled, as a writer is lent them
-tablesTold : reading.Outcome → Source
+tablesTold : reading.ReadOutcome → Source
 tablesTold o = ofTables (columnsTold (o .answer)) (stepsTold (o .answer)) (o .frame) (o .costs) (o .marks)
 
 -- what was put over the front of a list is its first values
@@ -76,13 +76,13 @@ module _ (n m : ℕ) (frame costs marks sheet₀ : List ℕ) (bound : (j : ℕ) 
 
   write-quiet : W ≡ 0
   unfolding writing.number
-  write-quiet = sym (ap (λ (o : writing.Outcome). writing.number (o .answer)) wrote ∙ sheet.writer P sheet₀ .told)
+  write-quiet = sym (ap (λ (o : writing.WriteOutcome). writing.number (o .answer)) wrote ∙ sheet.writer P sheet₀ .told)
 
   fields-good : judged (entries P) ≡ 0
   unfolding writeChecks judged
   fields-good = neither (refusal (checksOf (entries P))) _ (sym (refusal-append (checksOf (entries P)) _) ∙ write-quiet) .0
 
-  whole-write : writing.outcome (Sheet b) s ≡ writing.outcome (Sheet (modelBytes (columnsIn P) (stepsIn P))) (over (sheetOf (entries P)) sheet₀)
+  whole-write : writing.writeOutcome (Sheet b) s ≡ writing.writeOutcome (Sheet (modelBytes (columnsIn P) (stepsIn P))) (over (sheetOf (entries P)) sheet₀)
   unfolding writing.writing
   whole-write = wrote ∙ simp (eq-eqb W 0 write-quiet)
 
@@ -94,11 +94,11 @@ module _ (n m : ℕ) (frame costs marks sheet₀ : List ℕ) (bound : (j : ℕ) 
   pub sheet-is : take b s ≡ sheetOf (entries P)
   unfolding bytesTold entries
   sheet-is =
-      let l : b ≡ length (sheetOf (entries P)) = ap (λ (o : writing.Outcome). bytesTold (o .answer)) whole-write ∙ sym (written-length P fields-good bound-in) in
-      ap (λ (k : ℕ). take k s) l ∙ ap (λ (o : writing.Outcome). take (length (sheetOf (entries P))) (o .sheet)) whole-write ∙ front-of (sheetOf (entries P)) sheet₀
+      let l : b ≡ length (sheetOf (entries P)) = ap (λ (o : writing.WriteOutcome). bytesTold (o .answer)) whole-write ∙ sym (written-length P fields-good bound-in) in
+      ap (λ (k : ℕ). take k s) l ∙ ap (λ (o : writing.WriteOutcome). take (length (sheetOf (entries P))) (o .sheet)) whole-write ∙ front-of (sheetOf (entries P)) sheet₀
 
   pub model-back : (f c k : List ℕ) → n * 3 ≤ length f → m ≤ length c → m * (n * 2) ≤ length k → {r : ModelRead} {f′ c′ k′ : List ℕ} → reading.ReadsModel (take b s) f c k r f′ c′ k′
-      → reading.outcome r f′ c′ k′ ≡ reading.outcome (Held n m) (over (take (n * 3) frame) f) (over (take m costs) c) (over (take (m * (n * 2)) marks) k)
+      → reading.readOutcome r f′ c′ k′ ≡ reading.readOutcome (Held n m) (over (take (n * 3) frame) f) (over (take m costs) c) (over (take (m * (n * 2)) marks) k)
   model-back f c k hf hc hk read = read ∙ ap (λ (x : List ℕ). reading.reading x f c k) sheet-is ∙ tables.tables-back n m frame costs marks fields-good bound f c k hf hc hk
 
 -- accepted bytes, read and written again, come back the same
@@ -108,20 +108,20 @@ module _ (s f c k : List ℕ) (bs : Bytes s) {n m : ℕ} {f′ c′ k′ : List 
 
   read-quiet : R ≡ 0
   unfolding reading.number
-  read-quiet = sym (ap (λ (o : reading.Outcome). reading.number (o .answer)) read ∙ sheet.reader s f c k .told)
+  read-quiet = sym (ap (λ (o : reading.ReadOutcome). reading.number (o .answer)) read ∙ sheet.reader s f c k .told)
 
   sheet-good : judgeSheet s ≡ 0
   unfolding readChecks judgeSheet
   sheet-good = neither (refusal (sheetChecks s)) _ (sym (refusal-append (sheetChecks s) _) ∙ read-quiet) .0
 
-  whole-read : reading.outcome (Held n m) f′ c′ k′ ≡ reading.outcome (Held (columnsOf s) (stepsOf s)) (over (frameOf (ofSheet s)) f) (over (costsOf (ofSheet s)) c) (over (marksOf (ofSheet s)) k)
+  whole-read : reading.readOutcome (Held n m) f′ c′ k′ ≡ reading.readOutcome (Held (columnsOf s) (stepsOf s)) (over (frameOf (ofSheet s)) f) (over (costsOf (ofSheet s)) c) (over (marksOf (ofSheet s)) k)
   unfolding reading.reading
   whole-read = read ∙ simp (eq-eqb R 0 read-quiet)
 
   pub model-bytes-back : (sheet₀ : List ℕ) → length s ≤ length sheet₀ → {r : SheetWritten} {s′ : List ℕ} → writing.WritesModel n m f′ c′ k′ sheet₀ r s′
-      → writing.outcome r s′ ≡ writing.outcome (Sheet (length s)) (over s sheet₀)
+      → writing.writeOutcome r s′ ≡ writing.writeOutcome (Sheet (length s)) (over s sheet₀)
   unfolding tablesTold columnsTold stepsTold
-  model-bytes-back sheet₀ h wrote = wrote ∙ ap (λ (o : reading.Outcome). writing.writing (tablesTold o) sheet₀) whole-read ∙ tables.bytes-back s sheet-good bs f c k sheet₀ h
+  model-bytes-back sheet₀ h wrote = wrote ∙ ap (λ (o : reading.ReadOutcome). writing.writing (tablesTold o) sheet₀) whole-read ∙ tables.bytes-back s sheet-good bs f c k sheet₀ h
 
 -- ---- the cut sheet
 
@@ -132,7 +132,7 @@ module _ (model : List ℕ) (count : ℕ) (cuts sheet₀ : List ℕ) (sets : (i 
 
   cuts-quiet : K ≡ 0
   unfolding cutWriting.number
-  cuts-quiet = sym (ap (λ (o : cutWriting.Outcome). cutWriting.number (o .answer)) wrote ∙ cut.writer model count cuts sheet₀ .told)
+  cuts-quiet = sym (ap (λ (o : cutWriting.WriteCutsOutcome). cutWriting.number (o .answer)) wrote ∙ cut.writer model count cuts sheet₀ .told)
 
   given-quiet : (judgeSheet model ≡ 0) × (judged (cutEntries (taskOn model) (ofCuts count cuts)) ≡ 0)
   unfolding writeCutsChecks givenChecks judgeSheet judged
@@ -140,7 +140,7 @@ module _ (model : List ℕ) (count : ℕ) (cuts sheet₀ : List ℕ) (sets : (i 
       let g : refusal (givenChecks model count cuts) ≡ 0 = neither (refusal (givenChecks model count cuts)) _ (sym (refusal-append (givenChecks model count cuts) _) ∙ cuts-quiet) .0 in
       neither (refusal (sheetChecks model)) _ (sym (refusal-append (sheetChecks model) _) ∙ g)
 
-  whole-cuts : cutWriting.outcome (CutSheet b) s ≡ cutWriting.outcome (CutSheet (length model + cutBytes count)) (over (cutSheetOf model count cuts) sheet₀)
+  whole-cuts : cutWriting.writeCutsOutcome (CutSheet b) s ≡ cutWriting.writeCutsOutcome (CutSheet (length model + cutBytes count)) (over (cutSheetOf model count cuts) sheet₀)
   unfolding cutWriting.writingCuts
   whole-cuts = wrote ∙ simp (eq-eqb K 0 cuts-quiet)
 
@@ -149,11 +149,11 @@ module _ (model : List ℕ) (count : ℕ) (cuts sheet₀ : List ℕ) (sets : (i 
   unfolding cutBytesTold
   cut-sheet-is =
       let S = cutSheetOf model count cuts in
-      let l : b ≡ length S = ap (λ (o : cutWriting.Outcome). cutBytesTold (o .answer)) whole-cuts ∙ sym (back.sheet-long model count cuts (given-quiet .0) (given-quiet .1) sets) in
-      ap (λ (k : ℕ). take k s) l ∙ ap (λ (o : cutWriting.Outcome). take (length S) (o .sheet)) whole-cuts ∙ front-of S sheet₀
+      let l : b ≡ length S = ap (λ (o : cutWriting.WriteCutsOutcome). cutBytesTold (o .answer)) whole-cuts ∙ sym (back.sheet-long model count cuts (given-quiet .0) (given-quiet .1) sets) in
+      ap (λ (k : ℕ). take k s) l ∙ ap (λ (o : cutWriting.WriteCutsOutcome). take (length S) (o .sheet)) whole-cuts ∙ front-of S sheet₀
 
   pub cuts-back : (c₀ : List ℕ) → count * 3 ≤ length c₀ → {r : CutsRebuilt} {c : List ℕ} → rebuilding.Rebuilds model (take b s) c₀ r c
-      → rebuilding.outcome r c ≡ rebuilding.outcome (Cuts count) (over (take (count * 3) cuts) c₀)
+      → rebuilding.rebuildOutcome r c ≡ rebuilding.rebuildOutcome (Cuts count) (over (take (count * 3) cuts) c₀)
   cuts-back c₀ h rebuilt = rebuilt ∙ ap (λ (x : List ℕ). rebuilding.rebuilding model x c₀) cut-sheet-is ∙ back.cuts-back model count cuts (given-quiet .0) (given-quiet .1) sets c₀ h
 
 -- accepted bytes: the cuts that were rebuilt, written again with the model from the list that holds them, come back the same
@@ -163,17 +163,17 @@ module _ (model s c₀ : List ℕ) (bs : Bytes s) {n : ℕ} {c : List ℕ} (rebu
 
   rebuild-quiet : Q ≡ 0
   unfolding rebuilding.number
-  rebuild-quiet = sym (ap (λ (o : rebuilding.Outcome). rebuilding.number (o .answer)) rebuilt ∙ cut.rebuilder model s c₀ .told)
+  rebuild-quiet = sym (ap (λ (o : rebuilding.RebuildOutcome). rebuilding.number (o .answer)) rebuilt ∙ cut.rebuilder model s c₀ .told)
 
   cut-sheet-good : refusal (cutSheetChecks model s) ≡ 0
   unfolding rebuildChecks
   cut-sheet-good = neither (refusal (cutSheetChecks model s)) _ (sym (refusal-append (cutSheetChecks model s) _) ∙ rebuild-quiet) .0
 
-  whole-rebuild : rebuilding.outcome (Cuts n) c ≡ rebuilding.outcome (Cuts (countOf (tailOf s))) (over (cutList s) c₀)
+  whole-rebuild : rebuilding.rebuildOutcome (Cuts n) c ≡ rebuilding.rebuildOutcome (Cuts (countOf (tailOf s))) (over (cutList s) c₀)
   unfolding rebuilding.rebuilding
   whole-rebuild = rebuilt ∙ simp (eq-eqb Q 0 rebuild-quiet)
 
   pub cut-bytes-back : (sheet₀ : List ℕ) → length s ≤ length sheet₀ → {r : CutsWritten} {s′ : List ℕ} → cutWriting.WritesCuts model n c sheet₀ r s′
-      → cutWriting.outcome r s′ ≡ cutWriting.outcome (CutSheet (length s)) (over s sheet₀)
+      → cutWriting.writeCutsOutcome r s′ ≡ cutWriting.writeCutsOutcome (CutSheet (length s)) (over s sheet₀)
   unfolding cutsTold
-  cut-bytes-back sheet₀ h wrote = wrote ∙ ap (λ (o : rebuilding.Outcome). cutWriting.writingCuts model (cutsTold (o .answer)) (o .cuts) sheet₀) whole-rebuild ∙ back.bytes-back model s cut-sheet-good bs c₀ sheet₀ h
+  cut-bytes-back sheet₀ h wrote = wrote ∙ ap (λ (o : rebuilding.RebuildOutcome). cutWriting.writingCuts model (cutsTold (o .answer)) (o .cuts) sheet₀) whole-rebuild ∙ back.bytes-back model s cut-sheet-good bs c₀ sheet₀ h

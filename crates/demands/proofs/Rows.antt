@@ -23,11 +23,11 @@ use Rattle.run.specs.Listing.{listed}
 use Rattle.running.specs.declared.Answer.{Answer}
 use Rattle.running.specs.declared.Answer.the-variants.{Plan, NoPlan, Open, Refused}
 use Rattle.running.specs.Running as running
-use Rattle.running.specs.Running.{told, number}
+use Rattle.running.specs.Running.{returned, number}
 use Rattle.run_laws.proofs.Answers as said
 use Rattle.values.specs.Usable.{usable}
 use Rattle.rows.specs.Rows as lent
-use Rattle.rows.specs.Rows.{outcome, RowRuns, PutsRows}
+use Rattle.rows.specs.Rows.{rowRunOutcome, RowRuns, PutsRows}
 use Rattle.rows.proofs.RowRunLaws.{checks-same}
 use Rattle.demands.proofs.Refusals.{row-run-judged}
 
@@ -44,7 +44,7 @@ pub row-run-one : (s : List ℕ) (room : ℕ) (cuts : List ℕ) (rs : List Row) 
     → (a ≡ a′) × (c ≡ c′) × (l ≡ l′)
 row-run-one s room cuts rs p q =
     let e = p ∙ sym q in
-    (ap (λ (o : lent.Outcome). o .answer) e, ap (λ (o : lent.Outcome). o .cuts) e, ap (λ (o : lent.Outcome). o .rows) e)
+    (ap (λ (o : lent.RowRunOutcome). o .answer) e, ap (λ (o : lent.RowRunOutcome). o .cuts) e, ap (λ (o : lent.RowRunOutcome). o .rows) e)
 
 -- ---- run
 
@@ -64,8 +64,8 @@ module _ (t : Task) (cs : List Cut) (before after : List Row) where
   RowsSay (Open e b) = (after ≡ before) × (estimate t cs (start t) ≡ some e)
   RowsSay (Refused n) = ⊥
 
-  rows-say : (room b : ℕ) (r : run.Answer) → Right t room cs r → after ≡ over (rowsOf t r) before → RowsSay (told t b r)
-  unfolding told rowsOf over
+  rows-say : (room b : ℕ) (r : run.Answer) → Right t room cs r → after ≡ over (rowsOf t r) before → RowsSay (returned t b r)
+  unfolding returned rowsOf over
   rows-say room b (plan ss) h e = record { steps = ss; count-is = refl; cost-is = refl; shown = e; cheapest = h }
   rows-say room b noPlan h e = (e, h)
   rows-say room b («open» k) h e = (e, h .2)
@@ -83,18 +83,18 @@ module _ (s : List ℕ) (room : ℕ) (cuts : List ℕ) (rs : List Row) where
       abbrev values : List ℕ
       values = replicate (usable mostSteps (length rs) * 3) 0
 
-      abbrev ending : running.Outcome
+      abbrev ending : running.RunOutcome
       ending = running.running s room cuts values
 
-      same-made : outcome a c l ≡ outcome (told t (blockCount o) (o .answer)) (over (listed cutPlace (o .made)) cuts) (over (rowsOf t (o .answer)) rs)
+      same-made : rowRunOutcome a c l ≡ rowRunOutcome (returned t (blockCount o) (o .answer)) (over (listed cutPlace (o .made)) cuts) (over (rowsOf t (o .answer)) rs)
       same-made = row-run-judged s room cuts rs done .done kept
 
-      pub same-run : running.outcome a c (ending .rows) ≡ ending
+      pub same-run : running.runOutcome a c (ending .rows) ≡ ending
       unfolding running.running running.made
       same-run =
           let z : refusal (running.runChecks s room cuts values) ≡ 0 = sym (checks-same s room cuts rs values (length-replicate {A = ℕ} (usable mostSteps (length rs) * 3) 0)) ∙ sym (row-run-judged s room cuts rs done .told) ∙ kept in
           simp (eq-eqb (refusal (running.runChecks s room cuts values)) 0 z)
-          (rw (ap (λ (x : lent.Outcome). x .answer) same-made, ap (λ (x : lent.Outcome). x .cuts) same-made) refl)
+          (rw (ap (λ (x : lent.RowRunOutcome). x .answer) same-made, ap (λ (x : lent.RowRunOutcome). x .cuts) same-made) refl)
 
       pub row-ran : said.Ran s room cuts values a c (ending .rows)
       row-ran = said.run-says s room cuts values same-run kept
@@ -102,5 +102,5 @@ module _ (s : List ℕ) (room : ℕ) (cuts : List ℕ) (rs : List Row) where
       -- demand 2 of the rows
       pub rows-right : RowsSay t (o .made) rs l a
       rows-right =
-          subst (RowsSay t (o .made) rs l) (sym (ap (λ (x : lent.Outcome). x .answer) same-made))
-          (rows-say t (o .made) rs l room (blockCount o) (o .answer) (run-right t (row-ran .model) room (row-ran .some) .right) (ap (λ (x : lent.Outcome). x .rows) same-made))
+          subst (RowsSay t (o .made) rs l) (sym (ap (λ (x : lent.RowRunOutcome). x .answer) same-made))
+          (rows-say t (o .made) rs l room (blockCount o) (o .answer) (run-right t (row-ran .model) room (row-ran .some) .right) (ap (λ (x : lent.RowRunOutcome). x .rows) same-made))

@@ -16,12 +16,12 @@ use Rattle.run.specs.Listing.{listed, rowPlace}
 use Rattle.refining.proofs.CutListLaws.{listed-length}
 use Rattle.running.specs.declared.Answer.{Answer}
 use Rattle.running.specs.declared.Answer.the-variants.{Plan, NoPlan, Open, Refused}
-use Rattle.running.specs.Running.{number, Outcome, Runs}
+use Rattle.running.specs.Running.{number, RunOutcome, Runs}
 use Rattle.running.proofs.RowLaws.{three}
 use Rattle.run_laws.proofs.Answers as said
 use Rattle.values.specs.Values.{bytesAt, bytesOf}
 use Rattle.values.proofs.ValueLaws.{four}
-use Rattle.historian.specs.Entries.{entryChecks, RunOutcome, EntryRuns}
+use Rattle.historian.specs.Entries.{entryChecks, RunEntryOutcome, EntryRuns}
 use Rattle.demands.proofs.Numbers.{kind, steps}
 use Rattle.demands.proofs.Refusals.{run-judged, entry-refused}
 use Rattle.demands.proofs.Entry as entry
@@ -49,7 +49,7 @@ module _ (s : List ℕ) (room : ℕ) (cuts rs : List ℕ) {c l : List ℕ} where
   refused-untouched : (n : ℕ) → Runs s room cuts rs (Refused n) c l → Dec (n ≡ 0) → l ≡ rs
   unfolding number
   refused-untouched n done (yes z) = absurd (said.run-says s room cuts rs done z .says)
-  refused-untouched n done (no z) = ap (λ (o : Outcome). o .rows) (run-judged s room cuts rs done .leaves n z refl)
+  refused-untouched n done (no z) = ap (λ (o : RunOutcome). o .rows) (run-judged s room cuts rs done .leaves n z refl)
 
   -- only a plan writes rows: for "no plan" and "open" they stay untouched, and after a refusal
   pub rows-untouched : (a : Answer) → Runs s room cuts rs a c l → ((cost n b : ℕ) → a ≡ Plan cost n b → ⊥) → l ≡ rs
@@ -74,13 +74,13 @@ module _ (s : List ℕ) (room : ℕ) (cuts rs : List ℕ) {r : ℕ} {c l : List 
   pub entry-rows-untouched : (kind r ≡ 1 → ⊥) → l ≡ rs
   entry-rows-untouched h = split (ℕ-discrete (refusal (entryChecks s room cuts rs)) 0)
     where
-      told : entry.Made s room cuts rs done → Dec (kind r ≡ 2) → l ≡ rs
+      told : entry.EntryMade s room cuts rs done → Dec (kind r ≡ 2) → l ≡ rs
       told m (yes k) = m .tells .no-plan-right k .untouched
       told m (no k) = m .tells .open-right (omega (arith, m .tells .kinds)) .untouched
 
       split : Dec (refusal (entryChecks s room cuts rs) ≡ 0) → l ≡ rs
       split (yes z) = told (entry.entry-ran s room cuts rs done z) (ℕ-discrete (kind r) 2)
-      split (no z) = ap (λ (o : RunOutcome). o .rows) (done ∙ entry-refused s room cuts rs z)
+      split (no z) = ap (λ (o : RunEntryOutcome). o .rows) (done ∙ entry-refused s room cuts rs z)
 
   pub entry-cuts-past-untouched : (kept : kind r ≡ 0 → ⊥) → drop (length (cut.entry-made s room cuts rs done kept) * 12) c ≡ drop (length (cut.entry-made s room cuts rs done kept) * 12) cuts
   entry-cuts-past-untouched kept =

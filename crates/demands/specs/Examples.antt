@@ -26,7 +26,7 @@ use Rattle.run.specs.Run as run
 use Rattle.run.specs.Run.{blockCount, rowsOf}
 use Rattle.running.specs.declared.Answer.{Answer}
 use Rattle.running.specs.declared.Answer.the-variants.{Plan, NoPlan, Open}
-use Rattle.running.specs.Running.{told}
+use Rattle.running.specs.Running.{returned}
 
 -- ---- how the examples are written down
 
@@ -53,24 +53,24 @@ abbrev row : ℕ → ℕ → ℕ → Row
 row s n l = record { step = step s; tenths = n; left = l }
 
 -- how a model is given: as a task, or as a sheet's bytes
-pub data Given : Type 0 where
-  drawn : Task → Given
-  bytes : List ℕ → Given
+pub data ModelGiven : Type 0 where
+  drawn : Task → ModelGiven
+  bytes : List ℕ → ModelGiven
 
 -- the refusal number of what is given, 0 for none
-pub refusedOf : Given → ℕ
+pub refusedOf : ModelGiven → ℕ
 refusedOf (drawn t) = 0
 refusedOf (bytes s) = sheet.judgeSheet s
 
 -- the task that it is
-pub taskOf : Given → Task
+pub taskOf : ModelGiven → Task
 taskOf (drawn t) = t
 taskOf (bytes s) = taskOn s
 
 -- an example: what is asked, a model, a room and states whose estimates are wanted after the run's cuts;
 -- and what is told: the refusal number, the task, the answer, the cuts, the rows, in which a plan's steps stand, and the estimates
 pub record Example : Type 0 where
-  pub given : Given
+  pub given : ModelGiven
   pub room : ℕ
   pub states : List State
   pub refused : ℕ
@@ -80,7 +80,7 @@ pub record Example : Type 0 where
   pub rows : List Row
   pub estimates : List (Option Tenths)
 
-abbrev example : List (List ℕ) → List (Option Tenths) → Given → Task → ℕ → Answer → List Cut → List Row → Example
+abbrev example : List (List ℕ) → List (Option Tenths) → ModelGiven → Task → ℕ → Answer → List Cut → List Row → Example
 example xs es g t n a cs rs =
     record { given = g; room = n; states = map (map position) xs; refused = 0; model = t; answer = a; cuts = cs; rows = rs; estimates = es }
 
@@ -105,7 +105,7 @@ answered e =
       states = e .states;
       refused = refusedOf (e .given);
       model = t;
-      answer = told t (blockCount o) (o .answer);
+      answer = returned t (blockCount o) (o .answer);
       cuts = o .made;
       rows = rowsOf t (o .answer);
       estimates = map (distances.estimate t (o .made)) (e .states);
@@ -243,7 +243,7 @@ list =
     ∷ []
 
 pub examples : map answered list ≡ list
-unfolding answered list refusedOf taskOf told sheet.judgeSheet sheet.sheetChecks sheet.entries sheet.fieldsPart sheet.headerPart sheet.columnPart
+unfolding answered list refusedOf taskOf returned sheet.judgeSheet sheet.sheetChecks sheet.entries sheet.fieldsPart sheet.headerPart sheet.columnPart
     sheet.marksPart sheet.stepPart sheet.fillPart sheet.modelBits sheet.columnOn sheet.costOn sheet.marksOn sheet.sheetWith sheet.ofSheet judging.outside
     judging.checksOf judging._then_ judging.refusal judging.judged judging.each packing.bytesFor bits.bitAt bits.fieldAt columnSaid changeSaid stepSaid
     taskIn taskOn marked loops.all loops.first loops.tab task.columnCount task.stepCount task.sizeOf task.startAt task.goalAt task.costOf task.changeAt

@@ -31,11 +31,11 @@ pub data Call : Type 0 where
   writesCuts : (model : List ℕ) (count : ℕ) (cuts sheet : List ℕ) → Call
 
 -- the number in its outcome
-pub told : Call → ℕ
-told (reads s frame costs marks) = reading.number (reading.reading s frame costs marks .answer)
-told (writes n m frame costs marks s) = writing.number (writing.writing (tables.ofTables n m frame costs marks) s .answer)
-told (rebuilds model s cuts) = rebuilding.number (rebuilding.rebuilding model s cuts .answer)
-told (writesCuts model count cuts s) = cutWriting.number (cutWriting.writingCuts model count cuts s .answer)
+pub numberOf : Call → ℕ
+numberOf (reads s frame costs marks) = reading.number (reading.reading s frame costs marks .answer)
+numberOf (writes n m frame costs marks s) = writing.number (writing.writing (tables.ofTables n m frame costs marks) s .answer)
+numberOf (rebuilds model s cuts) = rebuilding.number (rebuilding.rebuilding model s cuts .answer)
+numberOf (writesCuts model count cuts s) = cutWriting.number (cutWriting.writingCuts model count cuts s .answer)
 
 pub record Worked : Type 0 where
   pub call : Call
@@ -47,7 +47,7 @@ c gets n = record { call = c; number = n }
 
 -- the same, with what the definitions tell
 pub answered : Worked → Worked
-answered w = w .call gets told (w .call)
+answered w = w .call gets numberOf (w .call)
 
 -- a lent table of n places
 abbrev places : ℕ → List ℕ
@@ -138,7 +138,7 @@ list =
     ∷ []
 
 pub worked : map answered list ≡ list
-unfolding answered told list reading.number reading.reading writing.number writing.writing rebuilding.number rebuilding.rebuilding cutWriting.number
+unfolding answered numberOf list reading.number reading.reading writing.number writing.writing rebuilding.number rebuilding.rebuilding cutWriting.number
     cutWriting.writingCuts tables.columnIn tables.marksIn tables.ofTables tables.readChecks tables.writeChecks cut.tailOf cut.atFront
     cut.cutSheetChecks cut.rebuildChecks cut.cutLent cut.ofCuts cut.givenChecks cut.writeCutsChecks part.cutNamed part.cutsNamed part.cutHeader
     part.cutPart part.cutBits part.cutFields part.cutEntries part.cutOn part.cutPartWith part.ofCutPart part.cutChecks sheet.sheetChecks sheet.entries

@@ -21,7 +21,7 @@ use Rattle.sheet_laws.proofs.Examples.{rethread}
 use Rattle.cut_laws.proofs.Examples.{cutPart}
 use Rattle.replay.specs.Replay as replay
 use Rattle.historian.specs.ReplayEntry as entry
-use Rattle.historian.specs.ReplayEntry.{ReplayOutcome, replayOutcome, replayEntry}
+use Rattle.historian.specs.ReplayEntry.{ReplayEntryOutcome, replayEntryOutcome, replayEntry}
 
 -- a log and places for rows
 pub record Call : Type 0 where
@@ -54,15 +54,15 @@ calls =
     ∷ call (byte 0 (byte 2 [])) []
     ∷ []
 
-pub answer : Call → ReplayOutcome
+pub answer : Call → ReplayEntryOutcome
 answer c = replayEntry rethread (rethread ++ cutPart) (c .log) (c .places)
 
 pub worked : map answer calls
-    ≡ replayOutcome (1 * 2 ^ 56 + 3 * 2 ^ 32) (byte 20 (belowTen (byte 30 (byte 10 (byte 10 (byte 0 (byte 30 (byte 30 (byte 0 (7 ∷ []))))))))))
-    ∷ replayOutcome (1 * 2 ^ 56 + 1 * 2 ^ 32) (byte 20 (belowTen (byte 30 [])))
-    ∷ replayOutcome 8 (places 11)
-    ∷ replayOutcome (2 * 2 ^ 32 + 14) (places 24)
-    ∷ replayOutcome (2 * 2 ^ 32 + 14) []
+    ≡ replayEntryOutcome (1 * 2 ^ 56 + 3 * 2 ^ 32) (byte 20 (belowTen (byte 30 (byte 10 (byte 10 (byte 0 (byte 30 (byte 30 (byte 0 (7 ∷ []))))))))))
+    ∷ replayEntryOutcome (1 * 2 ^ 56 + 1 * 2 ^ 32) (byte 20 (belowTen (byte 30 [])))
+    ∷ replayEntryOutcome 8 (places 11)
+    ∷ replayEntryOutcome (2 * 2 ^ 32 + 14) (places 24)
+    ∷ replayEntryOutcome (2 * 2 ^ 32 + 14) []
     ∷ []
 unfolding answer calls entry.replayEntry entry.replayNumber values.valuesOn values.signedBytes values.bytesOf
     values.bytesAt values.valueBytes values.twos replay.replayChecks replay.logChecks replay.refused replay.rowList replay.rowValues replay.figure replay.dash

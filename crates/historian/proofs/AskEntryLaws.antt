@@ -21,14 +21,14 @@ use Rattle.sheets.specs.LentTables.{tooFew}
 use Rattle.cut_sheets.specs.CutSheet.{cutSheetChecks, cutsOf}
 use Rattle.asking.specs.declared.Asked.{Asked}
 use Rattle.asking.specs.declared.Asked.the-variants.{Estimates, Refused}
-use Rattle.asking.specs.Question.{statesIn, badStates, estimateAt, estimatesOf, questionChecks, outcome, asking, Asks}
+use Rattle.asking.specs.Question.{statesIn, badStates, estimateAt, estimatesOf, questionChecks, questionOutcome, asking, Asks}
 use Rattle.asking.specs.Question as question
 use Rattle.asking.proofs.AnswerLaws.{few-states}
 use Rattle.values.specs.Usable.{usable}
 use Rattle.values.proofs.UsableLaws.{usable-is, same-test}
 use Rattle.values.specs.Values.{tooMany, bytesAt, valuesOn}
 use Rattle.values.proofs.ValueLaws.{list-over}
-use Rattle.historian.specs.Entries.{askChecks, askOutcome, askEntry, EntryAsks}
+use Rattle.historian.specs.Entries.{askChecks, askEntryOutcome, askEntry, EntryAsks}
 use Rattle.historian.proofs.WholeLaws.{whole-values}
 use Rattle.sheets.specs.Holding.{taskOn}
 
@@ -46,11 +46,11 @@ module _ (model s states l : List ℕ) where
   estimates = estimatesOf t (cutsOf s) states
 
   module _ {a : Asked} {l′ : List ℕ} (e : Asks model s states l a l′) where
-    made : N ≡ 0 → outcome a l′ ≡ outcome (Estimates n) (over estimates l)
+    made : N ≡ 0 → questionOutcome a l′ ≡ questionOutcome (Estimates n) (over estimates l)
     unfolding asking
     made z = e ∙ simp (eq-eqb N 0 z)
 
-    not-made : (N ≡ 0 → ⊥) → outcome a l′ ≡ outcome (Refused N) l
+    not-made : (N ≡ 0 → ⊥) → questionOutcome a l′ ≡ questionOutcome (Refused N) l
     unfolding asking
     not-made z = e ∙ simp (ne-eqb N 0 z)
 
@@ -76,14 +76,14 @@ module _ (model s states l : List ℕ) where
       where
         split : Dec (N ≡ 0) → Answered k
         split (no z) =
-            let m = ap (λ (x : question.Outcome). x .answer) (not-made z) in
+            let m = ap (λ (x : question.QuestionOutcome). x .answer) (not-made z) in
             let y : _≡_ {A = ℕ} 0 1 = cc in
             absurd (omega arith)
         split (yes z) =
-            let m = ap (λ (x : question.Outcome). x .answer) (made z) in
+            let m = ap (λ (x : question.QuestionOutcome). x .answer) (made z) in
             let q : k ≡ n = cc in
             let f = fits z in
-            let v : l′ ≡ over estimates l = ap (λ (o : question.Outcome). o .estimates) (made z) in
+            let v : l′ ≡ over estimates l = ap (λ (o : question.QuestionOutcome). o .estimates) (made z) in
             let g : k ≡ length estimates = q ∙ sym (tab-length n (estimateAt t (cutsOf s) states)) in
             record {
               ok = z;
@@ -99,11 +99,11 @@ module _ (model s states l : List ℕ) where
       where
         split : Dec (N ≡ 0) → (N ≡ 0 → ⊥) × (k ≡ N)
         split (yes z) =
-            let m = ap (λ (x : question.Outcome). x .answer) (made z) in
+            let m = ap (λ (x : question.QuestionOutcome). x .answer) (made z) in
             let y : _≡_ {A = ℕ} 0 1 = cc in
             absurd (omega arith)
         split (no z) =
-            let m = ap (λ (x : question.Outcome). x .answer) (not-made z) in
+            let m = ap (λ (x : question.QuestionOutcome). x .answer) (not-made z) in
             let q : k ≡ N = cc in
             (z, q)
 
@@ -137,13 +137,13 @@ module _ (model s states l : List ℕ) where
         let r = answered e k q in
         let b : k * 4 ≤ length bytes = omega (arith, r .there, usable-is most (length bytes / 4) .there) in
         let x = w ∙ list-over estimates l ys bytes k (r .list) (r .long) b in
-        simp (eq-eqb (refusal (askChecks model s states bytes)) 0 (checks-same ∙ r .ok)) (ap (askOutcome 0) x)
+        simp (eq-eqb (refusal (askChecks model s states bytes)) 0 (checks-same ∙ r .ok)) (ap (askEntryOutcome 0) x)
 
     told-refused : {a : Asked} {l′ : List ℕ} (e : Asks model s states l a l′) (k : ℕ) → a ≡ Refused k → EntryAsks model s states bytes k bytes
     unfolding askEntry
     told-refused e k q =
         let r = refused e k q in
-        simp (ne-eqb (refusal (askChecks model s states bytes)) 0 (λ v. r .0 (sym checks-same ∙ v))) (ap (λ (x : ℕ). askOutcome x bytes) (r .1 ∙ sym checks-same))
+        simp (ne-eqb (refusal (askChecks model s states bytes)) 0 (λ v. r .0 (sym checks-same ∙ v))) (ap (λ (x : ℕ). askEntryOutcome x bytes) (r .1 ∙ sym checks-same))
 
 -- ---- the same with the first values of a list to work in
 module _ (model s states bytes list : List ℕ) (n : ℕ) {a : Asked} {l′ : List ℕ} (e : Asks model s states (take n list) a l′) (h : n ≤ length list) where

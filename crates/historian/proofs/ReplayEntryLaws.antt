@@ -27,13 +27,13 @@ use Rattle.values.proofs.ValueLaws.{signed-over, nothing-put}
 use Rattle.replay.specs.declared.Replayed.{Replayed}
 use Rattle.replay.specs.declared.Replayed.the-variants.{Rows, Stopped, Refused}
 use Rattle.replay.specs.Replay as replay
-use Rattle.replay.specs.Replay.{badRow, rowList, logChecks, replayChecks, rowCount, rowNamed, refused, outcome, replaying, Replays}
+use Rattle.replay.specs.Replay.{badRow, rowList, logChecks, replayChecks, rowCount, rowNamed, refused, replayOutcome, replaying, Replays}
 use Rattle.replay.proofs.LogLaws.{bad-first}
 use Rattle.replay.proofs.RowLaws.{rows-length}
 use Rattle.replay_laws.proofs.Refusals.{quiet, stopped-short}
 use Rattle.values.specs.Usable.{usable}
 use Rattle.values.proofs.UsableLaws.{all-of-them, usable-is, part-long, missing-same}
-use Rattle.historian.specs.ReplayEntry.{replayNumber, replayEntryChecks, replayOutcome, replayEntry, EntryReplays}
+use Rattle.historian.specs.ReplayEntry.{replayNumber, replayEntryChecks, replayEntryOutcome, replayEntry, EntryReplays}
 use Rattle.historian.proofs.WholeLaws.{whole-places}
 
 -- ---- what a log comes to
@@ -79,11 +79,11 @@ module _ (model s log : List ℕ) (list : List ℤ) where
   room-for z = quiet model s log list z .places
 
   module _ {a : Replayed} {list′ : List ℤ} (e : Replays model s log list a list′) where
-    made : N ≡ 0 → outcome a list′ ≡ outcome (Rows (length log)) (over figures list)
+    made : N ≡ 0 → replayOutcome a list′ ≡ replayOutcome (Rows (length log)) (over figures list)
     unfolding replaying
     made z = e ∙ simp (eq-eqb N 0 z)
 
-    not-made : (N ≡ 0 → ⊥) → outcome a list′ ≡ outcome (refused (taskOn model) log N) list
+    not-made : (N ≡ 0 → ⊥) → replayOutcome a list′ ≡ replayOutcome (refused (taskOn model) log N) list
     unfolding replaying
     not-made z = e ∙ simp (ne-eqb N 0 z)
 
@@ -99,17 +99,17 @@ module _ (model s log : List ℕ) (list : List ℤ) where
       where
         split : Dec (N ≡ 0) → Known
         split (yes z) =
-            let m = ap (λ (o : replay.Outcome). o .answer) (made z) in
+            let m = ap (λ (o : replay.ReplayOutcome). o .answer) (made z) in
             let c : rowCount a ≡ length log = ap rowCount m in
             let d : rowNamed a ≡ 0 = ap rowNamed m in
-            let w = ap (λ (o : replay.Outcome). length (o .rows)) (made z) in
+            let w = ap (λ (o : replay.ReplayOutcome). length (o .rows)) (made z) in
             record {
               fits = omega (arith, c, room-for z);
               within = omega (arith, c, w, length-append figures (drop (length figures) list), rows-length (taskOn model) (cutsOf s) log);
               named = omega (arith, d);
             }
         split (no z) =
-            let m = ap (λ (o : replay.Outcome). o .answer) (not-made z) in
+            let m = ap (λ (o : replay.ReplayOutcome). o .answer) (not-made z) in
             let c : rowCount a ≡ 0 = ap rowCount m ∙ no-rows (taskOn model) log N in
             record { fits = omega (arith, c); within = omega (arith, c); named = subst (λ (x : Replayed). rowNamed x ≤ length log) (sym m) (names-row (taskOn model) log N) }
 
@@ -192,19 +192,19 @@ module _ (model s log : List ℕ) (n most : ℕ) (seen : ltb (limits .log) most 
         where
           split : Dec (N model s got list ≡ 0) → EntryReplays model s log rows r rows′
           split (yes z) =
-              let m = ap (λ (o : replay.Outcome). o .answer) (made model s got list e z) in
+              let m = ap (λ (o : replay.ReplayOutcome). o .answer) (made model s got list e z) in
               let k : rowCount a * 3 ≡ length (figures model s got list) = ap (λ (x : Replayed). rowCount x * 3) m ∙ sym (rows-length t (cutsOf s) got) in
               let b : rowCount a * 3 * 4 ≤ length rows = omega (arith, known model s got list e .fits, usable-is (limits .log) (length rows / 12) .there) in
-              let y = q ∙ signed-over (figures model s got list) list ys rows (rowCount a * 3) (ap (λ (o : replay.Outcome). o .rows) (made model s got list e z)) k b in
+              let y = q ∙ signed-over (figures model s got list) list ys rows (rowCount a * 3) (ap (λ (o : replay.ReplayOutcome). o .rows) (made model s got list e z)) k b in
               let x = p ∙ ap replayNumber m in
               simp (eq-eqb M 0 (checks-same ∙ z))
-              (rw (x, y) (ap (λ (l : List ℕ). replayOutcome (replayNumber (Rows (length l))) (over (signedBytes (rowList t (cutsOf s) l)) rows)) (done-whole z)))
+              (rw (x, y) (ap (λ (l : List ℕ). replayEntryOutcome (replayNumber (Rows (length l))) (over (signedBytes (rowList t (cutsOf s) l)) rows)) (done-whole z)))
           split (no z) =
-              let m = ap (λ (o : replay.Outcome). o .answer) (not-made model s got list e z) in
+              let m = ap (λ (o : replay.ReplayOutcome). o .answer) (not-made model s got list e z) in
               let c : rowCount a ≡ 0 = ap rowCount m ∙ no-rows t got (N model s got list) in
               let y : rows′ ≡ rows = q ∙ ap (λ (k : ℕ). puts 0 (each (k * 3) (bytesAt (map twos (list′ ++ ys)))) rows) c ∙ nothing-put (map twos (list′ ++ ys)) rows in
               let x = p ∙ ap replayNumber (m ∙ refused-same) in
-              simp (ne-eqb M 0 (λ v. z (sym checks-same ∙ v))) (rw (x, y) (ap (λ (k : ℕ). replayOutcome (replayNumber (refused t all k)) rows) (sym checks-same)))
+              simp (ne-eqb M 0 (λ v. z (sym checks-same ∙ v))) (rw (x, y) (ap (λ (k : ℕ). replayEntryOutcome (replayNumber (refused t all k)) rows) (sym checks-same)))
 
 -- ---- the same with the first values of two lists to work in
 module _ (log steps : List ℕ) (n : ℕ) {steps′ : List ℕ} (got-is : steps′ ≡ over (tab n (valueOn log)) steps) where

@@ -20,7 +20,7 @@ use Rattle.running.proofs.CountLaws as count
 use Rattle.values.proofs.UsableLaws.{usable-is, part-long, missing-same}
 use Rattle.values.specs.Values.{tooMany, bytesAt, bytesOf, valuesOn}
 use Rattle.values.proofs.ValueLaws.{list-over, nothing-put}
-use Rattle.historian.specs.Entries.{answerNumber, entryChecks, madeBytes, runOutcome, runEntry, EntryRuns}
+use Rattle.historian.specs.Entries.{answerNumber, entryChecks, madeBytes, runEntryOutcome, runEntry, EntryRuns}
 use Rattle.historian.proofs.WholeLaws.{whole-places}
 
 -- ---- 8 is judged on the places lent
@@ -72,7 +72,7 @@ module _ (s : List ℕ) (room : ℕ) (cuts rows c r : List ℕ) (lc : length c �
             let x : cuts′ ≡ cuts = p ∙ ap (λ (z : Answer). puts 0 (each (cutValueCount z) (bytesAt (c′ ++ cs))) cuts) (b .answer) ∙ nothing-put (c′ ++ cs) cuts in
             let y : rows′ ≡ rows = q ∙ ap (λ (z : Answer). puts 0 (each (rowValueCount z) (bytesAt (r′ ++ rs))) rows) (b .answer) ∙ nothing-put (r′ ++ rs) rows in
             let z : n ≡ refusal (entryChecks s room cuts rows) = k ∙ ap answerNumber (b .answer) ∙ sym checks-same in
-            simp (ne-eqb (refusal (entryChecks s room cuts rows)) 0 (λ v. b .bad (sym checks-same ∙ v))) (rw (x, y) (ap (λ (m : ℕ). runOutcome m cuts rows) z))
+            simp (ne-eqb (refusal (entryChecks s room cuts rows)) 0 (λ v. b .bad (sym checks-same ∙ v))) (rw (x, y) (ap (λ (m : ℕ). runEntryOutcome m cuts rows) z))
 
 -- ---- the same with the first values of two lists to work in
 module _ (s : List ℕ) (room : ℕ) (cutList rowList : List ℕ) (m n : ℕ) {a : Answer} {c′ r′ : List ℕ} (e : Runs s room (take (m * 3) cutList) (take (n * 3) rowList) a c′ r′) where

@@ -13,7 +13,7 @@ use Rattle.blocks.specs.Flat.{cutPlace}
 use Rattle.run.specs.Listing.{listed, rowPlace}
 use Rattle.running.specs.declared.Answer.{Answer}
 use Rattle.running.specs.declared.Answer.the-variants.{Plan, NoPlan, Open, Refused}
-use Rattle.running.specs.Running.{runChecks, told}
+use Rattle.running.specs.Running.{runChecks, returned}
 use Rattle.cut_sheets.specs.CutSheet.{cutsOf}
 use Rattle.asking.specs.Question.{questionChecks, estimatesOf}
 
@@ -30,28 +30,28 @@ answerNumber (Open estimate blocks) = 3 * 2 ^ 56 + blocks * 2 ^ 44 + estimate
 abbrev pub entryChecks : List ℕ → ℕ → List ℕ → List ℕ → List Check
 entryChecks s room cuts rows = runChecks s room (valuesOn cuts) (valuesOn rows)
 
-pub record RunOutcome : Type 0 where
+pub record RunEntryOutcome : Type 0 where
   pub answer : ℕ
   pub cuts : List ℕ
   pub rows : List ℕ
 
-abbrev pub runOutcome : ℕ → List ℕ → List ℕ → RunOutcome
-runOutcome a cuts rows = record { answer = a; cuts = cuts; rows = rows }
+abbrev pub runEntryOutcome : ℕ → List ℕ → List ℕ → RunEntryOutcome
+runEntryOutcome a cuts rows = record { answer = a; cuts = cuts; rows = rows }
 
 -- a run that is made: the bytes of its cuts, and for a plan those of its rows, over the front of the lists
-unfoldable pub madeBytes : Task → run.Outcome → List ℕ → List ℕ → RunOutcome
+unfoldable pub madeBytes : Task → run.Outcome → List ℕ → List ℕ → RunEntryOutcome
 madeBytes t o cuts rows =
-    runOutcome (answerNumber (told t (blockCount o) (o .answer))) (over (bytesOf (listed cutPlace (o .made))) cuts)
+    runEntryOutcome (answerNumber (returned t (blockCount o) (o .answer))) (over (bytesOf (listed cutPlace (o .made))) cuts)
     (over (bytesOf (listed rowPlace (rowsOf t (o .answer)))) rows)
 
 -- a refusal returns only its number and changes nothing lent
-unfoldable pub runEntry : List ℕ → ℕ → List ℕ → List ℕ → RunOutcome
+unfoldable pub runEntry : List ℕ → ℕ → List ℕ → List ℕ → RunEntryOutcome
 runEntry s room cuts rows =
-    unlessRefused (refusal (entryChecks s room cuts rows)) (madeBytes (taskOn s) (run.run (taskOn s) room) cuts rows) (λ n. runOutcome n cuts rows)
+    unlessRefused (refusal (entryChecks s room cuts rows)) (madeBytes (taskOn s) (run.run (taskOn s) room) cuts rows) (λ n. runEntryOutcome n cuts rows)
 
 -- what `elhavir_run` promises, whatever is passed: the answer number and the two lists at exit
 abbrev pub EntryRuns : (s : List ℕ) (room : ℕ) (cuts rows : List ℕ) → ℕ → (cuts′ rows′ : List ℕ) → Type 0
-EntryRuns s room cuts rows r cuts′ rows′ = runOutcome r cuts′ rows′ ≡ runEntry s room cuts rows
+EntryRuns s room cuts rows r cuts′ rows′ = runEntryOutcome r cuts′ rows′ ≡ runEntry s room cuts rows
 
 -- ---- a question
 
@@ -59,20 +59,20 @@ EntryRuns s room cuts rows r cuts′ rows′ = runOutcome r cuts′ rows′ ≡ 
 abbrev pub askChecks : List ℕ → List ℕ → List ℕ → List ℕ → List Check
 askChecks model s states estimates = questionChecks model s states (valuesOn estimates)
 
-pub record AskOutcome : Type 0 where
+pub record AskEntryOutcome : Type 0 where
   pub answer : ℕ
   pub estimates : List ℕ
 
-abbrev pub askOutcome : ℕ → List ℕ → AskOutcome
-askOutcome a estimates = record { answer = a; estimates = estimates }
+abbrev pub askEntryOutcome : ℕ → List ℕ → AskEntryOutcome
+askEntryOutcome a estimates = record { answer = a; estimates = estimates }
 
 -- 0 and the bytes of one estimate for each state; or a refusal
-unfoldable pub askEntry : List ℕ → List ℕ → List ℕ → List ℕ → AskOutcome
+unfoldable pub askEntry : List ℕ → List ℕ → List ℕ → List ℕ → AskEntryOutcome
 askEntry model s states estimates =
     unlessRefused (refusal (askChecks model s states estimates))
-    (askOutcome 0 (over (bytesOf (estimatesOf (taskOn model) (cutsOf s) states)) estimates))
-    (λ n. askOutcome n estimates)
+    (askEntryOutcome 0 (over (bytesOf (estimatesOf (taskOn model) (cutsOf s) states)) estimates))
+    (λ n. askEntryOutcome n estimates)
 
 -- what `elhavir_question` promises, whatever is passed: the answer number and the list at exit
 abbrev pub EntryAsks : (model s states estimates : List ℕ) → ℕ → (estimates′ : List ℕ) → Type 0
-EntryAsks model s states estimates r estimates′ = askOutcome r estimates′ ≡ askEntry model s states estimates
+EntryAsks model s states estimates r estimates′ = askEntryOutcome r estimates′ ≡ askEntry model s states estimates

@@ -22,20 +22,20 @@ replayNumber (Refused n) = n
 abbrev pub replayEntryChecks : List ℕ → List ℕ → List ℕ → List ℕ → List Check
 replayEntryChecks model s log rows = replayChecks model s (valuesOn log) (valuesOn rows)
 
-pub record ReplayOutcome : Type 0 where
+pub record ReplayEntryOutcome : Type 0 where
   pub answer : ℕ
   pub rows : List ℕ
 
-abbrev pub replayOutcome : ℕ → List ℕ → ReplayOutcome
-replayOutcome a rows = record { answer = a; rows = rows }
+abbrev pub replayEntryOutcome : ℕ → List ℕ → ReplayEntryOutcome
+replayEntryOutcome a rows = record { answer = a; rows = rows }
 
 -- the bytes of a row for each step over the front of the list; a refusal leaves the list as found
-unfoldable pub replayEntry : List ℕ → List ℕ → List ℕ → List ℕ → ReplayOutcome
+unfoldable pub replayEntry : List ℕ → List ℕ → List ℕ → List ℕ → ReplayEntryOutcome
 replayEntry model s log rows =
     unlessRefused (refusal (replayEntryChecks model s log rows))
-    (replayOutcome (replayNumber (Rows (length (valuesOn log)))) (over (signedBytes (rowList (taskOn model) (cutsOf s) (valuesOn log))) rows))
-    (λ n. replayOutcome (replayNumber (refused (taskOn model) (valuesOn log) n)) rows)
+    (replayEntryOutcome (replayNumber (Rows (length (valuesOn log)))) (over (signedBytes (rowList (taskOn model) (cutsOf s) (valuesOn log))) rows))
+    (λ n. replayEntryOutcome (replayNumber (refused (taskOn model) (valuesOn log) n)) rows)
 
 -- what `elhavir_replay` promises, whatever is passed: the answer number and the list at exit
 abbrev pub EntryReplays : (model s log rows : List ℕ) → ℕ → (rows′ : List ℕ) → Type 0
-EntryReplays model s log rows r rows′ = replayOutcome r rows′ ≡ replayEntry model s log rows
+EntryReplays model s log rows r rows′ = replayEntryOutcome r rows′ ≡ replayEntry model s log rows

@@ -22,7 +22,7 @@ use Rattle.run.specs.Run.{plan, noPlan, «open», rowsOf}
 use Rattle.run.proofs.LengthLaws.{plan-short}
 use Rattle.run.specs.Listing.{listed, rowPlace}
 use Rattle.running.specs.declared.Answer.the-variants.{Refused}
-use Rattle.running.specs.Running.{roomCheck, told}
+use Rattle.running.specs.Running.{roomCheck, returned}
 use Rattle.running.proofs.RowLaws.{three}
 use Rattle.lines.specs.Lines.{decimal, labelled, space, lineEnd, firstLine, rowLine, rowLines, madeLines, ranLines, printed, lineBytes, outputBytes}
 use Rattle.lines.proofs.LineLaws.{decimal-short}
@@ -59,7 +59,7 @@ module _ (t : Task) where
   made-short : (o : run.Outcome) → ((ss : List Step) → o .answer ≡ plan ss → length ss < limits .blocks) → length (madeLines t o) ≤ outputBytes
   unfolding madeLines rowLines
   made-short o h =
-      let a = told t (run.blockCount o) (o .answer) in
+      let a = returned t (run.blockCount o) (o .answer) in
       let vs = values (o .answer) in
       omega (arith, length-append (firstLine a) (rowLines vs), first-short a, each-most (length vs / 3) (rowLine vs) (row-short vs), few-rows (o .answer) h)
 

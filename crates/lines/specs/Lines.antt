@@ -19,7 +19,7 @@ use Rattle.run.specs.Run.{blockCount, rowsOf}
 use Rattle.run.specs.Listing.{listed, rowPlace}
 use Rattle.running.specs.declared.Answer.{Answer}
 use Rattle.running.specs.declared.Answer.the-variants.{Plan, NoPlan, Open, Refused}
-use Rattle.running.specs.Running.{roomCheck, told}
+use Rattle.running.specs.Running.{roomCheck, returned}
 
 -- how many decimal digits a number has; 20 are enough for 64 bits
 unfoldable pub width : ℕ → ℕ
@@ -89,7 +89,7 @@ rowLines list = each (length list / 3) (rowLine list)
 
 -- for a run that is made: the first line, and the rows of a plan
 unfoldable pub madeLines : Task → run.Outcome → List ℕ
-madeLines t o = firstLine (told t (blockCount o) (o .answer)) ++ rowLines (listed rowPlace (rowsOf t (o .answer)))
+madeLines t o = firstLine (returned t (blockCount o) (o .answer)) ++ rowLines (listed rowPlace (rowsOf t (o .answer)))
 
 -- the sheet is judged, then 7
 unfoldable pub ranLines : List ℕ → ℕ → List ℕ

@@ -29,7 +29,7 @@ use Rattle.cut_sheets.proofs.CutSheetLaws.{sheet-accepted}
 use Rattle.cut_sheets.proofs.JudgeLaws.{count-below}
 use Rattle.asking.specs.declared.Asked.{Asked}
 use Rattle.asking.specs.declared.Asked.the-variants.{Estimates, Refused}
-use Rattle.asking.specs.Question.{Outcome, stateIn, statesIn, badStates, estimateAt, estimatesOf, valued, questionChecks, outcome, number, asking, Asks}
+use Rattle.asking.specs.Question.{QuestionOutcome, stateIn, statesIn, badStates, estimateAt, estimatesOf, valued, questionChecks, questionOutcome, number, asking, Asks}
 use Rattle.asking.proofs.AnswerLaws.{state-good}
 use Rattle.question_laws.proofs.Refusals.{asker}
 
@@ -118,7 +118,7 @@ module _ (model s states est : List ℕ) {n : ℕ} {next : List ℕ} (done : Ask
 
   quiet : refusal (questionChecks model s states est) ≡ 0
   unfolding number
-  quiet = sym (asker model s states est .told) ∙ ap (λ (o : Outcome). number (o .answer)) (sym done)
+  quiet = sym (asker model s states est .told) ∙ ap (λ (o : QuestionOutcome). number (o .answer)) (sym done)
 
   parts : (refusal (cutSheetChecks model s) ≡ 0) × (refusal (check 11 (badStates m states) ∷ tooFew (statesIn m states) est ∷ []) ≡ 0)
   unfolding questionChecks
@@ -130,18 +130,18 @@ module _ (model s states est : List ℕ) {n : ℕ} {next : List ℕ} (done : Ask
   good : badStates m states ≡ false
   good = passed 11 (badStates m states) _ (λ z. omega arith) (parts .1) .0
 
-  whole : outcome (Estimates n) next ≡ outcome (Estimates (statesIn m states)) (over (estimatesOf m (cutsOf s) states) est)
+  whole : questionOutcome (Estimates n) next ≡ questionOutcome (Estimates (statesIn m states)) (over (estimatesOf m (cutsOf s) states) est)
   unfolding asking
   whole = simp (eq-eqb (refusal (questionChecks model s states est)) 0 quiet) at done
 
   -- one value for each state
   pub every-state : n ≡ statesIn m states
   unfolding written
-  every-state = ap (λ (o : Outcome). written (o .answer)) whole
+  every-state = ap (λ (o : QuestionOutcome). written (o .answer)) whole
 
   pub estimates-right : (k : ℕ) → k < n → Answered model s sheets-fine (stateIn (columnCount m) states k) (getD next k 0)
   unfolding estimatesOf
   estimates-right k h =
       let l : k < statesIn m states = omega (arith, every-state) in
-      let w : getD next k 0 ≡ estimateAt m (cutsOf s) states k = ap (λ (o : Outcome). getD (o .estimates) k 0) whole ∙ over-at (statesIn m states) (estimateAt m (cutsOf s) states) est 0 k l in
+      let w : getD next k 0 ≡ estimateAt m (cutsOf s) states k = ap (λ (o : QuestionOutcome). getD (o .estimates) k 0) whole ∙ over-at (statesIn m states) (estimateAt m (cutsOf s) states) est 0 k l in
       subst⁻¹ (Answered model s sheets-fine (stateIn (columnCount m) states k)) w (value-right model s sheets-fine states good k l)

@@ -18,7 +18,7 @@ use Rattle.sheet_laws.proofs.Examples.{rethread}
 use Rattle.cut_laws.proofs.Examples.{cutPart, noCuts}
 use Rattle.asking.specs.declared.Asked.the-variants.{Estimates, Refused}
 use Rattle.asking.specs.Question as question
-use Rattle.asking.specs.Question.{Outcome, outcome, asking}
+use Rattle.asking.specs.Question.{QuestionOutcome, questionOutcome, asking}
 
 -- a question: a cut part behind the re-thread, states, and places for estimates
 pub record Posed : Type 0 where
@@ -43,18 +43,18 @@ posed =
     ∷ pose cutPart (0 ∷ 0 ∷ 0 ∷ 2 ∷ []) (7 ∷ [])
     ∷ []
 
-pub answer : Posed → Outcome
+pub answer : Posed → QuestionOutcome
 answer q = asking rethread (rethread ++ q .part) (q .states) (q .places)
 
 pub answered-examples : map answer posed
-    ≡ outcome (Estimates 3) (110 ∷ 70 ∷ 0 ∷ 7 ∷ [])
-    ∷ outcome (Estimates 1) (0 ∷ 7 ∷ [])
-    ∷ outcome (Estimates 0) (7 ∷ [])
-    ∷ outcome (Refused 11) (7 ∷ 7 ∷ [])
-    ∷ outcome (Refused 11) (7 ∷ [])
-    ∷ outcome (Refused 6) (7 ∷ [])
-    ∷ outcome (Refused 11) (7 ∷ [])
-    ∷ outcome (Refused 8) (7 ∷ [])
+    ≡ questionOutcome (Estimates 3) (110 ∷ 70 ∷ 0 ∷ 7 ∷ [])
+    ∷ questionOutcome (Estimates 1) (0 ∷ 7 ∷ [])
+    ∷ questionOutcome (Estimates 0) (7 ∷ [])
+    ∷ questionOutcome (Refused 11) (7 ∷ 7 ∷ [])
+    ∷ questionOutcome (Refused 11) (7 ∷ [])
+    ∷ questionOutcome (Refused 6) (7 ∷ [])
+    ∷ questionOutcome (Refused 11) (7 ∷ [])
+    ∷ questionOutcome (Refused 8) (7 ∷ [])
     ∷ []
 unfolding answer posed question.asking question.questionChecks question.badStates question.statesIn question.estimatesOf question.estimateAt question.stateIn question.placeIn
     cut.cutSheetChecks cut.cutsOf taskOn cut.tailOf cut.atFront part.cutEntries part.cutChecks part.cutFields part.cutHeader part.cutPart part.cutBits part.cutOn part.cutPartWith part.ofCutPart

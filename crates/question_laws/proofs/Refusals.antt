@@ -9,7 +9,7 @@ use Rattle.sheets.specs.Holding.{taskOn}
 use Rattle.cut_sheets.specs.CutSheet.{cutSheetChecks, cutsOf}
 use Rattle.cut_laws.proofs.Refusals.{sheetsNumbers, sheets-numbers}
 use Rattle.asking.specs.declared.Asked.the-variants.{Estimates, Refused}
-use Rattle.asking.specs.Question.{statesIn, estimatesOf, questionChecks, Outcome, outcome, number, asking}
+use Rattle.asking.specs.Question.{statesIn, estimatesOf, questionChecks, QuestionOutcome, questionOutcome, number, asking}
 
 -- which numbers a question can get
 abbrev pub numbers : List ℕ
@@ -20,7 +20,7 @@ module _ (model s states est : List ℕ) where
   unfolding questionChecks
   question-numbers = numbers-append (has numbers) sheetsNumbers refl (cutSheetChecks model s) _ (sheets-numbers model s) refl
 
-  pub asker : Judged (λ (o : Outcome). number (o .answer)) (λ n. outcome (Refused n) est) (questionChecks model s states est)
-      (outcome (Estimates (statesIn (taskOn model) states)) (over (estimatesOf (taskOn model) (cutsOf s) states) est)) (asking model s states est)
+  pub asker : Judged (λ (o : QuestionOutcome). number (o .answer)) (λ n. questionOutcome (Refused n) est) (questionChecks model s states est)
+      (questionOutcome (Estimates (statesIn (taskOn model) states)) (over (estimatesOf (taskOn model) (cutsOf s) states) est)) (asking model s states est)
   unfolding asking number
   asker = judges _ _ numbers refl (questionChecks model s states est) question-numbers _ refl refl

@@ -15,7 +15,7 @@ use Rattle.sheets.specs.ModelSheet.{columnsOf, stepsOf, columnOn, costOn, marks
 use Rattle.sheets.specs.LentTables.{columnValues, costValue, stepValues, frameOf, costsOf, marksOf, readChecks}
 use Rattle.sheets.proofs.TableLaws.{frame-length, costs-length, marks-length}
 use Rattle.reading.specs.declared.ModelRead.the-variants.{Held, Refused}
-use Rattle.reading.specs.Reading.{outcome, reading, ReadsModel}
+use Rattle.reading.specs.Reading.{readOutcome, reading, ReadsModel}
 
 module _ (s frame costs marks : List ℕ) where
   -- the checks of the places
@@ -24,7 +24,7 @@ module _ (s frame costs marks : List ℕ) where
 
   refused : {r : ℕ} → r ≡ refusal (readChecks s frame costs marks) → (r ≡ 0 → ⊥) → ReadsModel s frame costs marks (Refused r) frame costs marks
   unfolding reading
-  refused e z = refused-is (λ n. outcome (Refused n) frame costs marks) (readChecks s frame costs marks) _ e z
+  refused e z = refused-is (λ n. readOutcome (Refused n) frame costs marks) (readChecks s frame costs marks) _ e z
 
   pub sheet-refused : {r : ℕ} → r ≡ judgeSheet s → (r ≡ 0 → ⊥) → ReadsModel s frame costs marks (Refused r) frame costs marks
   unfolding judgeSheet readChecks
@@ -53,7 +53,7 @@ module _ (s frame costs marks : List ℕ) where
     unfolding reading over frameOf costsOf marksOf ofSheet sheetWith
     held z {f} {c} {k} ef ec ek =
         simp (eq-eqb (refusal (readChecks s frame costs marks)) 0 (sym same ∙ z))
-        (λ t. outcome (Held (qn t) (qm t)) ((ef ∙ ap (λ (x : ℕ). puts 0 (each x (columnValues (columnOn s))) frame) qn ∙ puts-over (frameOf (ofSheet s)) frame (rw frame-length (subst (λ (x : ℕ). x * 3 ≤ length frame) qn (enough z .0)))) t) ((ec ∙ ap₂ (λ (x y : ℕ). puts 0 (each y (costValue (costOn s x))) costs) qn qm ∙ puts-over (costsOf (ofSheet s)) costs (rw costs-length (subst (λ (x : ℕ). x ≤ length costs) qm (enough z .1)))) t) ((ek ∙ ap₂ (λ (x y : ℕ). puts 0 (each y (stepValues (marksOn s x) x)) marks) qn qm ∙ puts-over (marksOf (ofSheet s)) marks (rw marks-length (ap₂-le (enough z .2)))) t))
+        (λ t. readOutcome (Held (qn t) (qm t)) ((ef ∙ ap (λ (x : ℕ). puts 0 (each x (columnValues (columnOn s))) frame) qn ∙ puts-over (frameOf (ofSheet s)) frame (rw frame-length (subst (λ (x : ℕ). x * 3 ≤ length frame) qn (enough z .0)))) t) ((ec ∙ ap₂ (λ (x y : ℕ). puts 0 (each y (costValue (costOn s x))) costs) qn qm ∙ puts-over (costsOf (ofSheet s)) costs (rw costs-length (subst (λ (x : ℕ). x ≤ length costs) qm (enough z .1)))) t) ((ek ∙ ap₂ (λ (x y : ℕ). puts 0 (each y (stepValues (marksOn s x) x)) marks) qn qm ∙ puts-over (marksOf (ofSheet s)) marks (rw marks-length (ap₂-le (enough z .2)))) t))
       where
         ap₂-le : m * (n * 2) ≤ length marks → stepsOf s * (columnsOf s * 2) ≤ length marks
         ap₂-le h = subst (λ (x : ℕ). x * (columnsOf s * 2) ≤ length marks) qm (subst (λ (x : ℕ). m * (x * 2) ≤ length marks) qn h)

@@ -27,18 +27,18 @@ use Rattle.walk.specs.declared.Found.the-variants as walk
 use Rattle.blocks.specs.Masks.{Stands}
 use Rattle.standing.proofs.StartLaws as begin
 use Rattle.walk.specs.Walking.{Begins, seen, Known, walked, pathSteps}
-use Rattle.refining.specs.Refining.{Given, Made, lookOf, toldBy, KnownSeen}
+use Rattle.refining.specs.Refining.{Given, Made, lookOf, seenBy, KnownSeen}
 
 -- ---- what was told of a walk
-pub told-seen : (far : ℕ) (f : Found) (path : List ℕ) → lookOf (toldBy far f) path ≡ seen (far / tenth) f path
-unfolding toldBy lookOf seen pathSteps
-told-seen far (walk.Plan n) path = refl
-told-seen far (walk.Flaw c) path = refl
+pub see-seen : (far : ℕ) (f : Found) (path : List ℕ) → lookOf (seenBy far f) path ≡ seen (far / tenth) f path
+unfolding seenBy lookOf seen pathSteps
+see-seen far (walk.Plan n) path = refl
+see-seen far (walk.Flaw c) path = refl
 
-pub told-known : (far steps : ℕ) (f : Found) (path : List ℕ) → Known steps f path → KnownSeen steps (toldBy far f) path
-unfolding toldBy Known KnownSeen
-told-known far steps (walk.Plan n) path h = h n refl
-told-known far steps (walk.Flaw c) path h = tt
+pub see-known : (far steps : ℕ) (f : Found) (path : List ℕ) → Known steps f path → KnownSeen steps (seenBy far f) path
+unfolding seenBy Known KnownSeen
+see-known far steps (walk.Plan n) path h = h n refl
+see-known far steps (walk.Flaw c) path h = tt
 
 -- ---- a look
 module _ (t : Task) {columns steps : ℕ} {x : State} {needs lands goals costs : List ℕ} (g : Given t columns steps x needs lands goals costs)

@@ -39,9 +39,9 @@ pub record Ready (columns steps : ℕ) (x : State) (needs lands goals costs : Li
   pub stand : Made task columns made cuts sets
 
 -- what a walk found, where the start's distance is that number
-unfoldable pub toldBy : ℕ → Found → Seen
-toldBy far (walk.Plan n) = Planned n
-toldBy far (walk.Flaw c) = Flaw (far / tenth) c
+unfoldable pub seenBy : ℕ → Found → Seen
+seenBy far (walk.Plan n) = Planned n
+seenBy far (walk.Flaw c) = Flaw (far / tenth) c
 
 -- what a look says, with the path that it left
 unfoldable pub lookOf : Seen → List ℕ → run.Look

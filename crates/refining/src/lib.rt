@@ -13,7 +13,7 @@ ghost use Rattle.settling.specs.Ways.{noWay};
 ghost use Rattle.run.specs.Run as run;
 ghost use Rattle.run.specs.Run.{refine};
 ghost use Rattle.refining.specs.declared.Ended.the-variants.{Open};
-ghost use Rattle.refining.specs.Refining.{Given, Made, Ready, lookOf, toldBy, KnownSeen, endBy, RunEnds};
+ghost use Rattle.refining.specs.Refining.{Given, Made, Ready, lookOf, seenBy, KnownSeen, endBy, RunEnds};
 use blocks::Cut;
 use cutting::block_of;
 use cutting::fill_first;
@@ -59,9 +59,9 @@ fn put_cut(i: usize, cut: Cut, cuts: &mut [u32])
 }
 
 // What the walk found, with the start's distance.
-fn told(far: u64, found: Found) -> Seen
+fn see(far: u64, found: Found) -> Seen
     requires { ⌜ far < noWay ⌝ }
-    ensures { λ r. ⌜ r ≡ toldBy far found ⌝ }
+    ensures { λ r. ⌜ r ≡ seenBy far found ⌝ }
 {
     match found {
         Found::Plan(n) => Seen::Planned(n),
@@ -126,7 +126,7 @@ pub fn look(
         &mut here,
         path,
     );
-    told(far, found)
+    see(far, found)
 }
 
 // How a flaw ends a run whose room is full.

@@ -120,20 +120,20 @@ rowCount (Refused n) = 0
 unfoldable pub refused : Task → List ℕ → ℕ → Replayed
 refused t log n = cond (eqb n 14) (Stopped (badRow t log)) (Refused n)
 
-pub record Outcome : Type 0 where
+pub record ReplayOutcome : Type 0 where
   pub answer : Replayed
   pub rows : List ℤ
 
-abbrev pub outcome : Replayed → List ℤ → Outcome
-outcome a rows = record { answer = a; rows = rows }
+abbrev pub replayOutcome : Replayed → List ℤ → ReplayOutcome
+replayOutcome a rows = record { answer = a; rows = rows }
 
 -- a refusal leaves the list as found; else it has a row for each step, and places past the last row stay
-unfoldable pub replaying : List ℕ → List ℕ → List ℕ → List ℤ → Outcome
+unfoldable pub replaying : List ℕ → List ℕ → List ℕ → List ℤ → ReplayOutcome
 replaying model s log rows =
     unlessRefused (refusal (replayChecks model s log rows))
-    (outcome (Rows (length log)) (over (rowList (taskOn model) (cutsOf s) log) rows))
-    (λ n. outcome (refused (taskOn model) log n) rows)
+    (replayOutcome (Rows (length log)) (over (rowList (taskOn model) (cutsOf s) log) rows))
+    (λ n. replayOutcome (refused (taskOn model) log n) rows)
 
 -- what `replay` promises, whatever is passed: the answer and the list at exit
 abbrev pub Replays : (model s log : List ℕ) (rows : List ℤ) → Replayed → (rows′ : List ℤ) → Type 0
-Replays model s log rows r rows′ = outcome r rows′ ≡ replaying model s log rows
+Replays model s log rows r rows′ = replayOutcome r rows′ ≡ replaying model s log rows

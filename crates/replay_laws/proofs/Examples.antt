@@ -22,7 +22,7 @@ use Rattle.sheet_laws.proofs.Examples.{rethread}
 use Rattle.cut_laws.proofs.Examples.{cutPart}
 use Rattle.replay.specs.declared.Replayed.the-variants.{Rows, Stopped, Refused}
 use Rattle.replay.specs.Replay as replay
-use Rattle.replay.specs.Replay.{dash, Outcome, outcome, replaying}
+use Rattle.replay.specs.Replay.{dash, ReplayOutcome, replayOutcome, replaying}
 
 -- a replay: a model, a cut part behind it, a log, and places for rows
 pub record Posed : Type 0 where
@@ -69,20 +69,20 @@ posed =
     ∷ pose rethread cutPart (0 ∷ 1 ∷ 2 ∷ []) (places 8)
     ∷ []
 
-pub answer : Posed → Outcome
+pub answer : Posed → ReplayOutcome
 answer q = replaying (q .model) (q .model ++ q .part) (q .log) (q .places)
 
 pub replayed-examples : map answer posed
-    ≡ outcome (Rows 3) (pos 20 ∷ negsuc 9 ∷ pos 30 ∷ pos 10 ∷ pos 10 ∷ pos 0 ∷ pos 30 ∷ pos 30 ∷ pos 0 ∷ pos 7 ∷ [])
-    ∷ outcome (Rows 3) (pos 30 ∷ pos 30 ∷ pos 0 ∷ pos 20 ∷ pos 20 ∷ pos 0 ∷ pos 50 ∷ pos 50 ∷ pos 0 ∷ [])
-    ∷ outcome (Rows 0) (pos 7 ∷ [])
-    ∷ outcome (Rows 3) (pos 7 ∷ pos 0 ∷ pos 7 ∷ pos 3 ∷ dash ∷ dash ∷ pos 4 ∷ dash ∷ dash ∷ [])
-    ∷ outcome (Stopped 2) (places 6)
-    ∷ outcome (Stopped 1) (places 3)
-    ∷ outcome (Stopped 2) []
-    ∷ outcome (Refused 6) []
-    ∷ outcome (Refused 15) []
-    ∷ outcome (Refused 8) (places 8)
+    ≡ replayOutcome (Rows 3) (pos 20 ∷ negsuc 9 ∷ pos 30 ∷ pos 10 ∷ pos 10 ∷ pos 0 ∷ pos 30 ∷ pos 30 ∷ pos 0 ∷ pos 7 ∷ [])
+    ∷ replayOutcome (Rows 3) (pos 30 ∷ pos 30 ∷ pos 0 ∷ pos 20 ∷ pos 20 ∷ pos 0 ∷ pos 50 ∷ pos 50 ∷ pos 0 ∷ [])
+    ∷ replayOutcome (Rows 0) (pos 7 ∷ [])
+    ∷ replayOutcome (Rows 3) (pos 7 ∷ pos 0 ∷ pos 7 ∷ pos 3 ∷ dash ∷ dash ∷ pos 4 ∷ dash ∷ dash ∷ [])
+    ∷ replayOutcome (Stopped 2) (places 6)
+    ∷ replayOutcome (Stopped 1) (places 3)
+    ∷ replayOutcome (Stopped 2) []
+    ∷ replayOutcome (Refused 6) []
+    ∷ replayOutcome (Refused 15) []
+    ∷ replayOutcome (Refused 8) (places 8)
     ∷ []
 unfolding answer posed replay.replaying replay.replayChecks replay.logChecks replay.refused replay.rowList replay.rowValues replay.figure replay.dash
     replay.detour replay.won replay.difference replay.dashed replay.onWay replay.far replay.hasWay replay.paid replay.badRow replay.badAt replay.before

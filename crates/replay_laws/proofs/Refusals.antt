@@ -20,7 +20,7 @@ use Rattle.sheets.specs.LentTables.{tooFew}
 use Rattle.cut_sheets.specs.CutSheet.{cutSheetChecks, cutsOf}
 use Rattle.cut_laws.proofs.Refusals.{sheetsNumbers, sheets-numbers}
 use Rattle.replay.specs.declared.Replayed.the-variants.{Rows, Stopped, Refused}
-use Rattle.replay.specs.Replay.{badRow, rowList, logChecks, replayChecks, number, refused, Outcome, outcome, replaying}
+use Rattle.replay.specs.Replay.{badRow, rowList, logChecks, replayChecks, number, refused, ReplayOutcome, replayOutcome, replaying}
 
 -- which numbers a replay can get
 abbrev pub numbers : List ℕ
@@ -99,8 +99,8 @@ module _ {A : Type 0} (model s log : List ℕ) (rows : List A) where
 
 -- ---- replay
 module _ (model s log : List ℕ) (rows : List ℤ) where
-  pub replayer : Judged (λ (o : Outcome). number (o .answer)) (λ n. outcome (refused (taskOn model) log n) rows) (replayChecks model s log rows)
-      (outcome (Rows (length log)) (over (rowList (taskOn model) (cutsOf s) log) rows)) (replaying model s log rows)
+  pub replayer : Judged (λ (o : ReplayOutcome). number (o .answer)) (λ n. replayOutcome (refused (taskOn model) log n) rows) (replayChecks model s log rows)
+      (replayOutcome (Rows (length log)) (over (rowList (taskOn model) (cutsOf s) log) rows)) (replaying model s log rows)
   unfolding replaying number
   replayer =
       let n = refusal (replayChecks model s log rows) in

@@ -26,7 +26,7 @@ use Rattle.cut_sheets.specs.CutSheet.{cutSheetChecks, cutsOf}
 use Rattle.question_laws.proofs.Estimates.{model-accepted, cuts-accepted, few}
 use Rattle.replay.specs.declared.Replayed.the-variants.{Rows}
 use Rattle.replay.specs.Replay.{stepAt, before, badRow, paid, far, dashed, won, detour, dash, figure, rowValues, rowList}
-use Rattle.replay.specs.Replay.{replayChecks, number, rowCount, Outcome, outcome, Replays}
+use Rattle.replay.specs.Replay.{replayChecks, number, rowCount, ReplayOutcome, replayOutcome, Replays}
 use Rattle.replay.specs.Sums.{sumFrom}
 use Rattle.replay.proofs.SignedLaws.{not-below, sum-ext}
 use Rattle.replay.proofs.RowLaws as row
@@ -205,22 +205,22 @@ module _ (model s log : List ℕ) (rows : List ℤ) {n : ℕ} {next : List ℤ} 
 
   told : refusal (replayChecks model s log rows) ≡ 0
   unfolding number
-  told = sym (replayer model s log rows .told) ∙ ap (λ (o : Outcome). number (o .answer)) (sym done)
+  told = sym (replayer model s log rows .told) ∙ ap (λ (o : ReplayOutcome). number (o .answer)) (sym done)
 
   pub checked : Passed model s log rows
   checked = quiet model s log rows told
 
-  whole : outcome (Rows n) next ≡ outcome (Rows (length log)) (over (rowList t (cutsOf s) log) rows)
+  whole : replayOutcome (Rows n) next ≡ replayOutcome (Rows (length log)) (over (rowList t (cutsOf s) log) rows)
   unfolding number
   whole = done ∙ replayer model s log rows .done (replayer model s log rows .told ∙ told)
 
   -- one row for each step
   pub every-row : n ≡ length log
   unfolding rowCount
-  every-row = ap (λ (o : Outcome). rowCount (o .answer)) whole
+  every-row = ap (λ (o : ReplayOutcome). rowCount (o .answer)) whole
 
   pub rows-written : next ≡ over (rowList t (cutsOf s) log) rows
-  rows-written = ap (λ (o : Outcome). o .rows) whole
+  rows-written = ap (λ (o : ReplayOutcome). o .rows) whole
 
   -- the value of each place
   pub rows-there : HasRows t (cutsOf s) log (λ k. getD next k (pos 0))

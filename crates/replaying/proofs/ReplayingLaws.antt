@@ -28,7 +28,7 @@ use Rattle.cut_reading.proofs.RebuildLaws.{sheets-ok}
 use Rattle.cut_laws.proofs.Refusals.{sheetsNumbers, sheets-numbers}
 use Rattle.replay.specs.declared.Replayed.{Replayed}
 use Rattle.replay.specs.declared.Replayed.the-variants.{Rows, Stopped, Refused}
-use Rattle.replay.specs.Replay.{badRow, rowList, logChecks, replayChecks, refused, Outcome, outcome, replaying, Replays}
+use Rattle.replay.specs.Replay.{badRow, rowList, logChecks, replayChecks, refused, ReplayOutcome, replayOutcome, replaying, Replays}
 use Rattle.replaying.specs.Replaying.{Sheets, replayedOn}
 
 -- a number other than 14 names no row
@@ -41,7 +41,7 @@ module _ (m s log : List ℕ) (rows : List ℤ) where
   refusing : {r : ℕ} → r ≡ refusal (replayChecks m s log rows) → (r ≡ 0 → ⊥) → (r ≡ 14 → ⊥) → Replays m s log rows (Refused r) rows
   unfolding replaying
   refusing {r} e z n =
-      ap (λ (a : Replayed). outcome a rows) (sym (other (taskOn m) log r n)) ∙ refused-is (λ n. outcome (refused (taskOn m) log n) rows) (replayChecks m s log rows) _ e z
+      ap (λ (a : Replayed). replayOutcome a rows) (sym (other (taskOn m) log r n)) ∙ refused-is (λ n. replayOutcome (refused (taskOn m) log n) rows) (replayChecks m s log rows) _ e z
 
   abbrev after : List Check
   after = logChecks (taskOn m) log ++ (tooFew (length log * 3) rows ∷ [])
@@ -67,17 +67,17 @@ module _ (m s log : List ℕ) (rows : List ℤ) where
       fine = let k = sheets-ok m s [] j z in record { model-fine = k .0; part-fine = k .2; made = j .made z }
 
       -- what is left is the rest of the replay
-      pub ends : length log ≤ limits .log → {a : Replayed} {next : List ℤ} → outcome a next ≡ replayedOn (taskOn m) (cutsOf s) log rows → Replays m s log rows a next
+      pub ends : length log ≤ limits .log → {a : Replayed} {next : List ℤ} → replayOutcome a next ≡ replayedOn (taskOn m) (cutsOf s) log rows → Replays m s log rows a next
       unfolding replaying replayedOn logChecks
       ends h e =
           e
-          ∙ ap (λ (n : ℕ). cond (eqb n 0) (outcome (Rows (length log)) (over (rowList (taskOn m) (cutsOf s) log) rows)) (outcome (refused (taskOn m) log n) rows))
+          ∙ ap (λ (n : ℕ). cond (eqb n 0) (replayOutcome (Rows (length log)) (over (rowList (taskOn m) (cutsOf s) log) rows)) (replayOutcome (refused (taskOn m) log n) rows))
           (passes 15 (ltb (limits .log) (length log)) _ (le-ltb _ _ h) refl ∙ sym left)
 
 -- ---- the log and the places
 module _ (t : Task) (cs : List Cut) (log : List ℕ) (rows : List ℤ) where
   -- 14, with its row
-  pub stopped : {bad : ℕ} → bad ≡ badRow t log → (bad ≡ 0 → ⊥) → outcome (Stopped bad) rows ≡ replayedOn t cs log rows
+  pub stopped : {bad : ℕ} → bad ≡ badRow t log → (bad ≡ 0 → ⊥) → replayOutcome (Stopped bad) rows ≡ replayedOn t cs log rows
   unfolding replayedOn refused
   stopped {bad} e z =
       let a : 14 ≡ refusal (check 14 (not (eqb (badRow t log) 0)) ∷ tooFew (length log * 3) rows ∷ []) =
@@ -85,14 +85,14 @@ module _ (t : Task) (cs : List Cut) (log : List ℕ) (rows : List ℤ) where
       rw (← a, e) refl
 
   module _ (good : badRow t log ≡ 0) where
-    pub few-refused : length rows < length log * 3 → outcome (Refused 8) rows ≡ replayedOn t cs log rows
+    pub few-refused : length rows < length log * 3 → replayOutcome (Refused 8) rows ≡ replayedOn t cs log rows
     unfolding replayedOn refused
     few-refused h =
         let a : 8 ≡ refusal (check 14 (not (eqb (badRow t log) 0)) ∷ tooFew (length log * 3) rows ∷ []) =
         passes 14 (not (eqb (badRow t log) 0)) _ (ap not (eq-eqb (badRow t log) 0 good)) (applies 8 (ltb (length rows) (length log * 3)) [] (lt-ltb _ _ h) (λ q. omega arith)) in
         rw (← a) refl
 
-    pub done : length log * 3 ≤ length rows → {next : List ℤ} → next ≡ over (rowList t cs log) rows → outcome (Rows (length log)) next ≡ replayedOn t cs log rows
+    pub done : length log * 3 ≤ length rows → {next : List ℤ} → next ≡ over (rowList t cs log) rows → replayOutcome (Rows (length log)) next ≡ replayedOn t cs log rows
     unfolding replayedOn
     done h e =
         let a : 0 ≡ refusal (check 14 (not (eqb (badRow t log) 0)) ∷ tooFew (length log * 3) rows ∷ []) =

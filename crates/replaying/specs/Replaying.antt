@@ -18,7 +18,7 @@ use Rattle.blocks.specs.Masks.{Tables, Stands}
 use Rattle.cut_sheets.specs.CutPart.{cutOn, countOf, judgeCuts}
 use Rattle.cut_sheets.specs.Judged.{Made}
 use Rattle.replay.specs.declared.Replayed.the-variants.{Rows}
-use Rattle.replay.specs.Replay.{badRow, rowList, refused, Outcome, outcome}
+use Rattle.replay.specs.Replay.{badRow, rowList, refused, ReplayOutcome, replayOutcome}
 use Rattle.replaying.specs.declared.Frame.{Frame}
 
 -- the model of a sheet in tables, and its start as it stands
@@ -37,8 +37,8 @@ pub record Sheets (model part sets : List ℕ) : Type 0 where
   pub made : Made (taskOn model) (cutOn part) (columnCount (taskOn model)) (countOf part) sets
 
 -- what is left of a replay after the sheets and the length of its log: 14, then 8
-unfoldable pub replayedOn : Task → List Cut → List ℕ → List ℤ → Outcome
+unfoldable pub replayedOn : Task → List Cut → List ℕ → List ℤ → ReplayOutcome
 replayedOn t cs log rows =
     unlessRefused (refusal (check 14 (not (eqb (badRow t log) 0)) ∷ tooFew (length log * 3) rows ∷ []))
-    (outcome (Rows (length log)) (over (rowList t cs log) rows))
-    (λ n. outcome (refused t log n) rows)
+    (replayOutcome (Rows (length log)) (over (rowList t cs log) rows))
+    (λ n. replayOutcome (refused t log n) rows)

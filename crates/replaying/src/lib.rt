@@ -6,7 +6,7 @@ ghost use Rattle.task.specs.Sizes.{limits};
 ghost use Rattle.sheets.specs.ModelSheet.{judgeSheet};
 ghost use Rattle.sheets.specs.Holding.{taskOn};
 ghost use Rattle.cut_sheets.specs.CutPart.{cutsNamed, cutOn, countOf};
-ghost use Rattle.replay.specs.Replay.{outcome, Replays};
+ghost use Rattle.replay.specs.Replay.{replayOutcome, Replays};
 ghost use Rattle.replaying.specs.Replaying.{Tabled, Sheets, replayedOn};
 use along::fill_along;
 use along::judge_log;
@@ -67,7 +67,7 @@ fn fill_tables(
 // A replay of an accepted model after the cuts of an accepted part, whose blocks stand in the array.
 fn replay_on(model: &[u8], part: &[u8], sets: &BlockSets, log: &[u32], rows: &mut [i32]) -> Replayed
     requires { ⌜ Sheets (now model) (now part) (now sets) ⌝ ∗ ⌜ length (now log) ≤ limits .log ⌝ }
-    ensures { λ r. ⌜ outcome r (now (rows .exit))
+    ensures { λ r. ⌜ replayOutcome r (now (rows .exit))
         ≡ replayedOn (taskOn (now (model .entry))) (cutsNamed (cutOn (now (part .entry))) (countOf (now (part .entry))))
         (now (log .entry)) (now (rows .entry)) ⌝ }
 {

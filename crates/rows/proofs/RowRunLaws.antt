@@ -26,7 +26,7 @@ use Rattle.run.specs.Listing.{listed, rowPlace}
 use Rattle.running.specs.declared.Answer.{Answer}
 use Rattle.running.specs.declared.Answer.the-variants.{Refused}
 use Rattle.running.specs.Running as running
-use Rattle.running.specs.Running.{runChecks, told}
+use Rattle.running.specs.Running.{runChecks, returned}
 use Rattle.running.proofs.RowLaws.{row-each}
 use Rattle.running.specs.Counts.{rowCount}
 use Rattle.values.specs.Usable.{usable}
@@ -52,8 +52,8 @@ module _ (t : Task) where
   rows-known room cs noPlan r i k = absurd (not-suc-le-zero k)
   rows-known room cs («open» e) r i k = absurd (not-suc-le-zero k)
 
-  rows-counted : (b : ℕ) (a : run.Answer) → rowCount (told t b a) ≡ length (rowsOf t a)
-  unfolding told rowCount rowsOf
+  rows-counted : (b : ℕ) (a : run.Answer) → rowCount (returned t b a) ≡ length (rowsOf t a)
+  unfolding returned rowCount rowsOf
   rows-counted b (plan ss) = sym (row-each t ss)
   rows-counted b noPlan = refl
   rows-counted b («open» e) = refl

@@ -17,7 +17,7 @@ use Rattle.blocks.specs.Flat.{cutPlace}
 use Rattle.run.specs.Listing.{listed, rowPlace}
 use Rattle.running.specs.declared.Answer.{Answer}
 use Rattle.running.specs.declared.Answer.the-variants.{Refused}
-use Rattle.running.specs.Running.{runChecks, told}
+use Rattle.running.specs.Running.{runChecks, returned}
 
 -- ---- rows put from a list of values, three for each: step, tenths, tenths left
 
@@ -53,23 +53,23 @@ PutsRows rows values n r rows′ = filled r rows′ ≡ filling rows values n
 abbrev pub rowChecks : List ℕ → ℕ → List ℕ → List Row → List Check
 rowChecks s room cuts rows = runChecks s room cuts (listed rowPlace rows)
 
-pub record Outcome : Type 0 where
+pub record RowRunOutcome : Type 0 where
   pub answer : Answer
   pub cuts : List ℕ
   pub rows : List Row
 
-abbrev pub outcome : Answer → List ℕ → List Row → Outcome
-outcome a cuts rows = record { answer = a; cuts = cuts; rows = rows }
+abbrev pub rowRunOutcome : Answer → List ℕ → List Row → RowRunOutcome
+rowRunOutcome a cuts rows = record { answer = a; cuts = cuts; rows = rows }
 
 -- the answer, the cuts over the front of one list and a plan's rows over that of the other; a refusal changes nothing lent
-unfoldable pub rowRun : List ℕ → ℕ → List ℕ → List Row → Outcome
+unfoldable pub rowRun : List ℕ → ℕ → List ℕ → List Row → RowRunOutcome
 rowRun s room cuts rows =
     let t = taskOn s in
     let o = run.run t room in
     unlessRefused (refusal (rowChecks s room cuts rows))
-    (outcome (told t (blockCount o) (o .answer)) (over (listed cutPlace (o .made)) cuts) (over (rowsOf t (o .answer)) rows))
-    (λ n. outcome (Refused n) cuts rows)
+    (rowRunOutcome (returned t (blockCount o) (o .answer)) (over (listed cutPlace (o .made)) cuts) (over (rowsOf t (o .answer)) rows))
+    (λ n. rowRunOutcome (Refused n) cuts rows)
 
 -- what `run` promises, whatever is passed: the answer and the two lists at exit
 abbrev pub RowRuns : (s : List ℕ) (room : ℕ) (cuts : List ℕ) (rows : List Row) → Answer → (cuts′ : List ℕ) (rows′ : List Row) → Type 0
-RowRuns s room cuts rows r cuts′ rows′ = outcome r cuts′ rows′ ≡ rowRun s room cuts rows
+RowRuns s room cuts rows r cuts′ rows′ = rowRunOutcome r cuts′ rows′ ≡ rowRun s room cuts rows

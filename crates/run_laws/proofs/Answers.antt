@@ -32,7 +32,7 @@ use Rattle.blocks.specs.Flat.{cutPlace}
 use Rattle.run.specs.Listing.{listed, rowPlace}
 use Rattle.running.specs.declared.Answer.{Answer}
 use Rattle.running.specs.declared.Answer.the-variants.{Plan, NoPlan, Open, Refused}
-use Rattle.running.specs.Running.{roomChecks, runChecks, told, number, Outcome, outcome, made, running, Runs}
+use Rattle.running.specs.Running.{roomChecks, runChecks, returned, number, RunOutcome, runOutcome, made, running, Runs}
 use Rattle.running.proofs.RunningLaws.{room-fits}
 use Rattle.run_laws.proofs.Refusals.{runner}
 use Rattle.run_laws.proofs.Flaws.{OnePerFlaw, one-per-flaw}
@@ -53,8 +53,8 @@ module _ (t : Task) (room : ℕ) (cs : List Cut) (list₀ list : List ℕ) where
   Says (Open e b) = (b ≡ length cs + 1) × (list ≡ list₀) × (b ≡ room) × (room < stateCount t) × (estimate t cs (start t) ≡ some e)
   Says (Refused n) = ⊥
 
-  said : (r : run.Answer) → Right t room cs r → list ≡ over (listed rowPlace (rowsOf t r)) list₀ → Says (told t (length cs + 1) r)
-  unfolding told rowsOf
+  said : (r : run.Answer) → Right t room cs r → list ≡ over (listed rowPlace (rowsOf t r)) list₀ → Says (returned t (length cs + 1) r)
+  unfolding returned rowsOf
   said (plan ss) h e = (refl, record { steps = ss; count-is = refl; cost-is = refl; listed-rows = e; cheapest = h })
   said noPlan h e = (refl, (unfold over listed in e), h)
   said («open» k) h e = (refl, (unfold over listed in e), omega (arith, h .0), h .1, h .2)
@@ -105,7 +105,7 @@ module _ (s : List ℕ) (room : ℕ) (cuts rows₀ : List ℕ) where
 
   module _ {a : Answer} {cuts′ rows′ : List ℕ} (done : Runs s room cuts rows₀ a cuts′ rows′) (kind : number a ≡ 0) where
     quiet : refusal (runChecks s room cuts rows₀) ≡ 0
-    quiet = sym (runner s room cuts rows₀ .told) ∙ ap (λ (o : Outcome). number (o .answer)) (sym done) ∙ kind
+    quiet = sym (runner s room cuts rows₀ .told) ∙ ap (λ (o : RunOutcome). number (o .answer)) (sym done) ∙ kind
 
     parts : (refusal (sheetChecks s) ≡ 0) × (refusal (roomChecks room cuts rows₀) ≡ 0)
     unfolding runChecks
@@ -115,7 +115,7 @@ module _ (s : List ℕ) (room : ℕ) (cuts rows₀ : List ℕ) where
     unfolding judgeSheet
     ok = parts .0
 
-    whole-run : outcome a cuts′ rows′ ≡ made t (run.run t room) cuts rows₀
+    whole-run : runOutcome a cuts′ rows′ ≡ made t (run.run t room) cuts rows₀
     unfolding running
     whole-run = simp (eq-eqb (refusal (runChecks s room cuts rows₀)) 0 quiet) at done
 
@@ -125,14 +125,14 @@ module _ (s : List ℕ) (room : ℕ) (cuts rows₀ : List ℕ) where
         let f = room-fits room cuts rows₀ (parts .1) in
         let r = run-right t v room (f .some) in
         let o = run.run t room in
-        let e : a ≡ told t (length (o .made) + 1) (o .answer) = ap (λ (x : Outcome). x .answer) whole-run ∙ (unfold made run.blockCount in refl) in
-        let l : rows′ ≡ over (listed rowPlace (rowsOf t (o .answer))) rows₀ = ap (λ (x : Outcome). x .rows) whole-run ∙ (unfold made in refl) in
+        let e : a ≡ returned t (length (o .made) + 1) (o .answer) = ap (λ (x : RunOutcome). x .answer) whole-run ∙ (unfold made run.blockCount in refl) in
+        let l : rows′ ≡ over (listed rowPlace (rowsOf t (o .answer))) rows₀ = ap (λ (x : RunOutcome). x .rows) whole-run ∙ (unfold made in refl) in
         record {
           model = v;
           some = f .some;
           few = f .few;
           made = o .made;
-          listed-cuts = ap (λ (x : Outcome). x .cuts) whole-run ∙ (unfold made in refl);
+          listed-cuts = ap (λ (x : RunOutcome). x .cuts) whole-run ∙ (unfold made in refl);
           ok = r .made;
           flaws = one-per-flaw t room o r;
           within = omega (arith, r .fits);

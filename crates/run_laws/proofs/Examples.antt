@@ -18,7 +18,7 @@ use Rattle.run.specs.Listing as listing
 use Rattle.sheet_laws.proofs.Examples.{rethread, plain, goal0}
 use Rattle.running.specs.declared.Answer.the-variants.{Plan, NoPlan, Open, Refused}
 use Rattle.running.specs.Running as running
-use Rattle.running.specs.Running.{Outcome, outcome}
+use Rattle.running.specs.Running.{RunOutcome, runOutcome}
 
 -- a run that is asked for: a sheet, a room, and as many places in each list
 pub record Asked : Type 0 where
@@ -58,28 +58,28 @@ asked =
     ∷ ask plain 2 0 3
     ∷ []
 
-pub answer : Asked → Outcome
+pub answer : Asked → RunOutcome
 answer q = running.running (q .sheet) (q .room) (q .cuts) (q .rows)
 
 abbrev fourCuts : List ℕ
 fourCuts = 0 ∷ 1 ∷ 4 ∷ 0 ∷ 0 ∷ 2 ∷ 2 ∷ 1 ∷ 2 ∷ 0 ∷ 1 ∷ 2 ∷ []
 
 pub answered-examples : map answer asked
-    ≡ outcome (Open 0 1) (sevens 1) (sevens 1)
-    ∷ outcome (Open 50 2) (0 ∷ 1 ∷ 4 ∷ 7 ∷ []) (sevens 3)
-    ∷ outcome (Open 70 4) (0 ∷ 1 ∷ 4 ∷ 0 ∷ 0 ∷ 2 ∷ 2 ∷ 1 ∷ 2 ∷ []) (sevens 9)
-    ∷ outcome (Plan 100 3 5) (fourCuts ++ (7 ∷ [])) (2 ∷ 30 ∷ 70 ∷ 0 ∷ 20 ∷ 50 ∷ 3 ∷ 50 ∷ 0 ∷ 7 ∷ 7 ∷ 7 ∷ 7 ∷ 7 ∷ [])
-    ∷ outcome (NoPlan 5) fourCuts (sevens 12)
-    ∷ outcome (Plan 0 0 1) [] []
-    ∷ outcome (Plan 0 0 1) [] []
-    ∷ outcome (Refused 6) [] []
-    ∷ outcome (Refused 7) [] []
-    ∷ outcome (Refused 7) [] []
-    ∷ outcome (Refused 8) (sevens 11) (sevens 12)
-    ∷ outcome (Refused 8) (sevens 12) (sevens 11)
-    ∷ outcome (Refused 8) [] (sevens 3)
+    ≡ runOutcome (Open 0 1) (sevens 1) (sevens 1)
+    ∷ runOutcome (Open 50 2) (0 ∷ 1 ∷ 4 ∷ 7 ∷ []) (sevens 3)
+    ∷ runOutcome (Open 70 4) (0 ∷ 1 ∷ 4 ∷ 0 ∷ 0 ∷ 2 ∷ 2 ∷ 1 ∷ 2 ∷ []) (sevens 9)
+    ∷ runOutcome (Plan 100 3 5) (fourCuts ++ (7 ∷ [])) (2 ∷ 30 ∷ 70 ∷ 0 ∷ 20 ∷ 50 ∷ 3 ∷ 50 ∷ 0 ∷ 7 ∷ 7 ∷ 7 ∷ 7 ∷ 7 ∷ [])
+    ∷ runOutcome (NoPlan 5) fourCuts (sevens 12)
+    ∷ runOutcome (Plan 0 0 1) [] []
+    ∷ runOutcome (Plan 0 0 1) [] []
+    ∷ runOutcome (Refused 6) [] []
+    ∷ runOutcome (Refused 7) [] []
+    ∷ runOutcome (Refused 7) [] []
+    ∷ runOutcome (Refused 8) (sevens 11) (sevens 12)
+    ∷ runOutcome (Refused 8) (sevens 12) (sevens 11)
+    ∷ runOutcome (Refused 8) [] (sevens 3)
     ∷ []
-unfolding answer asked sevens running.running running.runChecks running.roomChecks running.made running.told listing.listed flat.cutPlace listing.rowPlace
+unfolding answer asked sevens running.running running.runChecks running.roomChecks running.made running.returned listing.listed flat.cutPlace listing.rowPlace
     sheet.sheetChecks sheet.entries sheet.fieldsPart sheet.headerPart sheet.columnPart sheet.marksPart sheet.stepPart sheet.fillPart sheet.modelBits sheet.columnOn sheet.costOn sheet.marksOn
     sheet.sheetWith sheet.ofSheet judging.outside judging.checksOf judging._then_ judging.refusal judging.judged judging.each packing.bytesFor bits.bitAt bits.fieldAt
     columnSaid changeSaid stepSaid taskIn taskOn marked loops.all loops.first loops.tab loops.over

@@ -11,11 +11,11 @@ use Rattle.sheet_laws.proofs.Refusals as sheet
 use Rattle.run.specs.Run as run
 use Rattle.run.specs.Run.{plan, noPlan, «open»}
 use Rattle.running.specs.declared.Answer.the-variants.{Refused}
-use Rattle.running.specs.Running.{roomChecks, runChecks, told, number, Outcome, outcome, made, running}
+use Rattle.running.specs.Running.{roomChecks, runChecks, returned, number, RunOutcome, runOutcome, made, running}
 
 -- a run that is made refuses nothing
-pub told-number : (t : Task) (b : ℕ) (a : run.Answer) → number (told t b a) ≡ 0
-unfolding number told
+pub told-number : (t : Task) (b : ℕ) (a : run.Answer) → number (returned t b a) ≡ 0
+unfolding number returned
 told-number t b (plan ss) = refl
 told-number t b noPlan = refl
 told-number t b («open» e) = refl
@@ -29,7 +29,7 @@ module _ (s : List ℕ) (room : ℕ) (cuts rows : List ℕ) where
   unfolding runChecks roomChecks
   run-numbers = numbers-append (has numbers) sheet.numbers refl (sheetChecks s) _ (sheet.sheet-numbers s) refl
 
-  pub runner : Judged (λ (o : Outcome). number (o .answer)) (λ n. outcome (Refused n) cuts rows) (runChecks s room cuts rows) (made (taskOn s) (run.run (taskOn s) room) cuts rows) (running s room cuts rows)
+  pub runner : Judged (λ (o : RunOutcome). number (o .answer)) (λ n. runOutcome (Refused n) cuts rows) (runChecks s room cuts rows) (made (taskOn s) (run.run (taskOn s) room) cuts rows) (running s room cuts rows)
   unfolding running made number
   runner =
       let t = taskOn s in

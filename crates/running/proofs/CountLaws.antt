@@ -29,33 +29,33 @@ use Rattle.refining.proofs.CutListLaws.{listed-length}
 use Rattle.running.specs.declared.Answer.{Answer}
 use Rattle.running.specs.declared.Answer.the-variants.{Plan, NoPlan, Open, Refused}
 use Rattle.running.specs.Running as running
-use Rattle.running.specs.Running.{roomChecks, runChecks, told, outcome, made}
+use Rattle.running.specs.Running.{roomChecks, runChecks, returned, runOutcome, made}
 use Rattle.running.proofs.RowLaws.{three}
 use Rattle.running.proofs.RunningLaws.{Fits, room-fits}
 use Rattle.running.specs.Counts.{cutValueCount, rowCount, rowValueCount, Counted}
 
 -- ---- the numbers of an answer
 module _ (t : Task) (blocks : ℕ) where
-  cuts-told : (a : run.Answer) → cutValueCount (told t blocks a) ≡ (blocks - 1) * 3
-  unfolding told cutValueCount
+  cuts-told : (a : run.Answer) → cutValueCount (returned t blocks a) ≡ (blocks - 1) * 3
+  unfolding returned cutValueCount
   cuts-told (plan ss) = refl
   cuts-told noPlan = refl
   cuts-told («open» e) = refl
 
-  rows-told : (a : run.Answer) → rowValueCount (told t blocks a) ≡ length (listed rowPlace (rowsOf t a))
-  unfolding told rowCount rowValueCount rowsOf listed
+  rows-told : (a : run.Answer) → rowValueCount (returned t blocks a) ≡ length (listed rowPlace (rowsOf t a))
+  unfolding returned rowCount rowValueCount rowsOf listed
   rows-told (plan ss) = sym (three t ss)
   rows-told noPlan = refl
   rows-told («open» e) = refl
 
-  counted-told : (a : run.Answer) → 1 ≤ blocks → blocks ≤ limits .blocks → ((ss : List Step) → a ≡ plan ss → length ss < limits .blocks) → Counted (told t blocks a)
-  unfolding told Counted
+  counted-told : (a : run.Answer) → 1 ≤ blocks → blocks ≤ limits .blocks → ((ss : List Step) → a ≡ plan ss → length ss < limits .blocks) → Counted (returned t blocks a)
+  unfolding returned Counted
   counted-told (plan ss) h g short = (h, g, let q = short ss refl in omega arith)
   counted-told noPlan h g short = (h, g)
   counted-told («open» e) h g short = (h, g)
 
-  rows-few : (room : ℕ) (a : run.Answer) → 1 ≤ room → ((ss : List Step) → a ≡ plan ss → length ss < room) → rowValueCount (told t blocks a) ≤ (room - 1) * 3
-  unfolding told rowCount rowValueCount
+  rows-few : (room : ℕ) (a : run.Answer) → 1 ≤ room → ((ss : List Step) → a ≡ plan ss → length ss < room) → rowValueCount (returned t blocks a) ≤ (room - 1) * 3
+  unfolding returned rowCount rowValueCount
   rows-few room (plan ss) h short = let q = short ss refl in omega arith
   rows-few room noPlan h short = omega arith
   rows-few room («open» e) h short = omega arith
@@ -117,7 +117,7 @@ module _ (s : List ℕ) (room : ℕ) (c r : List ℕ) where
     -- a run that was made
     pub record Ran : Type 0 where
       pub ok : refusal (runChecks s room c r) ≡ 0
-      pub answer : a ≡ told t (blockCount o) (o .answer)
+      pub answer : a ≡ returned t (blockCount o) (o .answer)
       pub cut-list : c′ ≡ over cutList c
       pub row-list : r′ ≡ over rowList r
 
@@ -141,11 +141,11 @@ module _ (s : List ℕ) (room : ℕ) (c r : List ℕ) where
       where
         split : Dec (refusal (runChecks s room c r) ≡ 0) → Ran a c′ r′ ⊎ NotRan a c′ r′
         split (yes z) =
-            let m : outcome a c′ r′ ≡ made t o c r = e ∙ simp (eq-eqb (refusal (runChecks s room c r)) 0 z) in
-            inl (record { ok = z; answer = ap (λ (x : running.Outcome). x .answer) m; cut-list = ap (λ (x : running.Outcome). x .cuts) m; row-list = ap (λ (x : running.Outcome). x .rows) m })
+            let m : runOutcome a c′ r′ ≡ made t o c r = e ∙ simp (eq-eqb (refusal (runChecks s room c r)) 0 z) in
+            inl (record { ok = z; answer = ap (λ (x : running.RunOutcome). x .answer) m; cut-list = ap (λ (x : running.RunOutcome). x .cuts) m; row-list = ap (λ (x : running.RunOutcome). x .rows) m })
         split (no z) =
-            let m : outcome a c′ r′ ≡ outcome (Refused (refusal (runChecks s room c r))) c r = e ∙ simp (ne-eqb (refusal (runChecks s room c r)) 0 z) in
-            inr (record { bad = z; answer = ap (λ (x : running.Outcome). x .answer) m; same-cuts = ap (λ (x : running.Outcome). x .cuts) m })
+            let m : runOutcome a c′ r′ ≡ runOutcome (Refused (refusal (runChecks s room c r))) c r = e ∙ simp (ne-eqb (refusal (runChecks s room c r)) 0 z) in
+            inr (record { bad = z; answer = ap (λ (x : running.RunOutcome). x .answer) m; same-cuts = ap (λ (x : running.RunOutcome). x .cuts) m })
 
     module _ (w : Ran a c′ r′) where
       parts : (refusal (sheetChecks s) ≡ 0) × (refusal (roomChecks room c r) ≡ 0)

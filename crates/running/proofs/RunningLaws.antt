@@ -30,7 +30,7 @@ use Rattle.run.specs.Listing.{listed, rowPlace}
 use Rattle.refining.specs.Refining.{answerOf, blocksTold, KnownEnd, StepsFit, RunEnds}
 use Rattle.running.specs.declared.Answer.{Answer}
 use Rattle.running.specs.declared.Answer.the-variants.{Plan, Refused}
-use Rattle.running.specs.Running.{PathCosts, roomChecks, runChecks, told, outcome, running, Runs}
+use Rattle.running.specs.Running.{PathCosts, roomChecks, runChecks, returned, runOutcome, running, Runs}
 use Rattle.running.specs.Running as specs
 
 -- ---- the room and the lists
@@ -108,14 +108,14 @@ costed m path (ended.Open e b) p = tt
 
 -- the answer of a plan whose rows were put
 pub plan-told : (t : Task) (n blocks : ℕ) (path list₀ : List ℕ) {c : ℕ} {list : List ℕ} → (c ≡ costs t (pathSteps n path)) × (list ≡ over (listed rowPlace (rows t (pathSteps n path))) list₀)
-    → (Plan c n blocks ≡ told t blocks (plan (pathSteps n path))) × (list ≡ over (listed rowPlace (rowsOf t (plan (pathSteps n path)))) list₀)
-unfolding told rowsOf pathSteps
+    → (Plan c n blocks ≡ returned t blocks (plan (pathSteps n path))) × (list ≡ over (listed rowPlace (rowsOf t (plan (pathSteps n path)))) list₀)
+unfolding returned rowsOf pathSteps
 plan-told t n blocks path list₀ r = (rw (tab-length n (stepIn path)) (ap (λ (k : ℕ). Plan k n blocks) (r .0)), r .1)
 
 module _ (s : List ℕ) (room : ℕ) (cuts rows : List ℕ) where
   refusing : {r : ℕ} → r ≡ refusal (runChecks s room cuts rows) → (r ≡ 0 → ⊥) → Runs s room cuts rows (Refused r) cuts rows
   unfolding running
-  refusing e z = refused-is (λ n. outcome (Refused n) cuts rows) (runChecks s room cuts rows) _ e z
+  refusing e z = refused-is (λ n. runOutcome (Refused n) cuts rows) (runChecks s room cuts rows) _ e z
 
   module _ {read : Read} (e : read ≡ unpacked s) where
     code : read .code ≡ refusal (sheetChecks s)
@@ -155,11 +155,11 @@ module _ (s : List ℕ) (room : ℕ) (cuts rows : List ℕ) where
             path-costs = costed (read .model) path o (w .known)
 
             -- the run is made
-            pub ran : {a : Answer} {rows′ : List ℕ} → (a ≡ told t (blocksTold o) (answerOf o path)) × (rows′ ≡ over (listed rowPlace (rowsOf t (answerOf o path))) rows)
+            pub ran : {a : Answer} {rows′ : List ℕ} → (a ≡ returned t (blocksTold o) (answerOf o path)) × (rows′ ≡ over (listed rowPlace (rowsOf t (answerOf o path))) rows)
                 → Runs s room cuts rows a cuts′ rows′
             unfolding running specs.made run.run
             ran {a} {rows′} p =
                 let q : 0 ≡ refusal (runChecks s room cuts rows) = after (sym (sym j ∙ k)) in
-                let x : a ≡ told t (run.blockCount (refine t (room - 1) [])) (refine t (room - 1) [] .answer) = p .0 ∙ ap₂ (told t) (w .blocks) (w .answer) in
+                let x : a ≡ returned t (run.blockCount (refine t (room - 1) [])) (refine t (room - 1) [] .answer) = p .0 ∙ ap₂ (returned t) (w .blocks) (w .answer) in
                 let y : rows′ ≡ over (listed rowPlace (rowsOf t (refine t (room - 1) [] .answer))) rows = p .1 ∙ ap (λ (b : run.Answer). over (listed rowPlace (rowsOf t b)) rows) (w .answer) in
                 simp (eq-eqb (refusal (runChecks s room cuts rows)) 0 (sym q)) (rw (x, y, w .list) (ap (λ (u : Task). specs.made u (refine u (room - 1) []) cuts rows) (given-task s e z)))

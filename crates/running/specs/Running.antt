@@ -33,10 +33,10 @@ unfoldable pub runChecks : List ℕ → ℕ → List ℕ → List ℕ → List C
 runChecks s room cuts rows = sheetChecks s ++ roomChecks room cuts rows
 
 -- an answer in 01's values: a plan has its cost and its number of steps, "open" the start's estimate, and each the number of blocks
-unfoldable pub told : Task → ℕ → run.Answer → Answer
-told t blocks (plan ss) = Plan (costs t ss) (length ss) blocks
-told t blocks noPlan = NoPlan blocks
-told t blocks («open» e) = Open e blocks
+unfoldable pub returned : Task → ℕ → run.Answer → Answer
+returned t blocks (plan ss) = Plan (costs t ss) (length ss) blocks
+returned t blocks noPlan = NoPlan blocks
+returned t blocks («open» e) = Open e blocks
 
 -- an answer's refusal number; 0 for none
 unfoldable pub number : Answer → ℕ
@@ -45,26 +45,27 @@ number (NoPlan b) = 0
 number (Open e b) = 0
 number (Refused n) = n
 
-pub record Outcome : Type 0 where
+pub record RunOutcome : Type 0 where
   pub answer : Answer
   pub cuts : List ℕ
   pub rows : List ℕ
 
-abbrev pub outcome : Answer → List ℕ → List ℕ → Outcome
-outcome a cuts rows = record { answer = a; cuts = cuts; rows = rows }
+abbrev pub runOutcome : Answer → List ℕ → List ℕ → RunOutcome
+runOutcome a cuts rows = record { answer = a; cuts = cuts; rows = rows }
 
 -- a run that is made: its cuts, and for a plan its rows; places past the last one used stay untouched
-unfoldable pub made : Task → run.Outcome → List ℕ → List ℕ → Outcome
-made t o cuts rows = outcome (told t (blockCount o) (o .answer)) (over (listed cutPlace (o .made)) cuts) (over (listed rowPlace (rowsOf t (o .answer))) rows)
+unfoldable pub made : Task → run.Outcome → List ℕ → List ℕ → RunOutcome
+made t o cuts rows =
+    runOutcome (returned t (blockCount o) (o .answer)) (over (listed cutPlace (o .made)) cuts) (over (listed rowPlace (rowsOf t (o .answer))) rows)
 
 -- a refusal returns only its number and changes nothing lent
-unfoldable pub running : List ℕ → ℕ → List ℕ → List ℕ → Outcome
+unfoldable pub running : List ℕ → ℕ → List ℕ → List ℕ → RunOutcome
 running s room cuts rows =
-    unlessRefused (refusal (runChecks s room cuts rows)) (made (taskOn s) (run.run (taskOn s) room) cuts rows) (λ n. outcome (Refused n) cuts rows)
+    unlessRefused (refusal (runChecks s room cuts rows)) (made (taskOn s) (run.run (taskOn s) room) cuts rows) (λ n. runOutcome (Refused n) cuts rows)
 
 -- what `run` promises, whatever is passed: the answer and the two lists at exit
 abbrev pub Runs : (s : List ℕ) (room : ℕ) (cuts rows : List ℕ) → Answer → (cuts′ rows′ : List ℕ) → Type 0
-Runs s room cuts rows r cuts′ rows′ = outcome r cuts′ rows′ ≡ running s room cuts rows
+Runs s room cuts rows r cuts′ rows′ = runOutcome r cuts′ rows′ ≡ running s room cuts rows
 
 -- ---- what code knows of a path
 

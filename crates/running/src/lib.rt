@@ -10,7 +10,7 @@ ghost use Rattle.run.specs.Run.{rows, rowsOf};
 ghost use Rattle.run.specs.Listing.{listed, rowPlace};
 ghost use Rattle.walk.specs.Walking.{pathSteps};
 ghost use Rattle.refining.specs.Refining.{answerOf, blocksTold, KnownEnd, StepsFit};
-ghost use Rattle.running.specs.Running.{Costed, PathCosts, roomChecks, told, Runs};
+ghost use Rattle.running.specs.Running.{Costed, PathCosts, roomChecks, returned, Runs};
 ghost use Rattle.running.specs.Counts.{cutValueCount, rowCount, rowValueCount, Counted};
 use refining::Ended;
 use refining::refine;
@@ -83,7 +83,7 @@ fn fill_rows(count: usize, path: &Path, cost: &Costs, list: &mut [u32]) -> u32
 fn tell(ended: Ended, path: &Path, cost: &Costs, list: &mut [u32]) -> Answer
     requires { ⌜ KnownEnd (limits .steps) ended (now path) × StepsFit ended (length (now list)) ⌝ }
     ensures { λ r. ⌜ ((t : Task) → PathCosts t ended (now (path .entry)) (now (cost .entry))
-        → (r ≡ told t (blocksTold ended) (answerOf ended (now (path .entry))))
+        → (r ≡ returned t (blocksTold ended) (answerOf ended (now (path .entry))))
         × (now (list .exit) ≡ over (listed rowPlace (rowsOf t (answerOf ended (now (path .entry))))) (now (list .entry)))) ⌝ }
 {
     match ended {

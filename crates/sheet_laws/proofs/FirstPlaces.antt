@@ -17,7 +17,7 @@ use Rattle.sheets.specs.ModelSheet.{Source, entries, modelBytes}
 use Rattle.sheets.specs.LentTables.{columnIn, marksIn, ofTables, tooFew, writeChecks}
 use Rattle.sheets.proofs.RoundLaws.{Same, same-fields}
 use Rattle.writing.specs.declared.write.SheetWritten.the-variants.{Sheet, Refused}
-use Rattle.writing.specs.Writing.{outcome, writing}
+use Rattle.writing.specs.Writing.{writeOutcome, writing}
 
 module _ (n m : ℕ) (f f′ c c′ k k′ : List ℕ) (frames : take (n * 3) f ≡ take (n * 3) f′) (costs : take m c ≡ take m c′) (marks : take (m * (n * 2)) k ≡ take (m * (n * 2)) k′) where
   abbrev P : Source
@@ -58,4 +58,4 @@ module _ (n m : ℕ) (f f′ c c′ k k′ : List ℕ) (frames : take (n * 3) f 
   first-places sheet =
       ap (λ (es : List Entry).
       let r = refusal (checksOf es ++ (tooFew (modelBytes n m) sheet ∷ [])) in
-      cond (eqb r 0) (outcome (Sheet (modelBytes n m)) (over (sheetOf es) sheet)) (outcome (Refused r) sheet)) same-entries
+      cond (eqb r 0) (writeOutcome (Sheet (modelBytes n m)) (over (sheetOf es) sheet)) (writeOutcome (Refused r) sheet)) same-entries

@@ -13,9 +13,9 @@ use Rattle.sheets.specs.ModelSheet.{Source, columnsIn, stepsIn, columnsOf, step
 use Rattle.sheets.specs.LentTables.{frameOf, costsOf, marksOf, readChecks, writeChecks}
 use Rattle.sheets.proofs.SheetLaws.{H, C, S, F}
 use Rattle.reading.specs.declared.ModelRead.the-variants.{Held, Refused}
-use Rattle.reading.specs.Reading.{Outcome, outcome, number, reading}
+use Rattle.reading.specs.Reading.{ReadOutcome, readOutcome, number, reading}
 use Rattle.writing.specs.declared.write.SheetWritten.the-variants.{Sheet, Refused as NotWritten}
-use Rattle.writing.specs.Writing.{Outcome as Written, outcome as written, number as writeNumber, writing}
+use Rattle.writing.specs.Writing.{WriteOutcome as Written, writeOutcome as written, number as writeNumber, writing}
 
 -- which numbers a sheet can get, and whoever reads or writes one
 abbrev pub numbers : List ℕ
@@ -46,8 +46,8 @@ module _ (s frame costs marks : List ℕ) where
   unfolding readChecks
   read-numbers = numbers-append (has lentNumbers) numbers refl (sheetChecks s) _ (sheet-numbers s) refl
 
-  pub reader : Judged (λ (o : Outcome). number (o .answer)) (λ n. outcome (Refused n) frame costs marks) (readChecks s frame costs marks)
-      (outcome (Held (columnsOf s) (stepsOf s)) (over (frameOf (ofSheet s)) frame) (over (costsOf (ofSheet s)) costs) (over (marksOf (ofSheet s)) marks)) (reading s frame costs marks)
+  pub reader : Judged (λ (o : ReadOutcome). number (o .answer)) (λ n. readOutcome (Refused n) frame costs marks) (readChecks s frame costs marks)
+      (readOutcome (Held (columnsOf s) (stepsOf s)) (over (frameOf (ofSheet s)) frame) (over (costsOf (ofSheet s)) costs) (over (marksOf (ofSheet s)) marks)) (reading s frame costs marks)
   unfolding reading number
   reader = judges _ _ lentNumbers refl (readChecks s frame costs marks) read-numbers _ refl refl
 

@@ -17,10 +17,10 @@ use Rattle.sheets.specs.LentTables.{columnValues, costValue, markValues, stepVa
 use Rattle.sheets.proofs.TableLaws.{column-length, cost-length, pair-length, row-length, frame-length, costs-length, marks-length}
 use Rattle.sheets.proofs.RoundLaws.{Fine, Same, same-fields, accepted, written-same, written-accepted, own-fine, exact-length, read-write}
 use Rattle.reading.specs.declared.ModelRead.the-variants.{Held}
-use Rattle.reading.specs.Reading.{outcome, reading}
+use Rattle.reading.specs.Reading.{readOutcome, reading}
 use Rattle.sheets.proofs.SheetLaws.{sheet-fine}
 use Rattle.writing.specs.declared.write.SheetWritten.the-variants.{Sheet}
-use Rattle.writing.specs.Writing.{outcome as written, writing}
+use Rattle.writing.specs.Writing.{writeOutcome as written, writing}
 
 -- ---- what the tables of a model hold goes by its fields
 module _ (p q : Source) (e : Same p q (columnsIn p) (stepsIn p)) where
@@ -113,11 +113,11 @@ module _ (n m : ℕ) (frame costs marks : List ℕ) (ok : judged (entries (ofTab
     tables-found = (same-frame (ofSheet S) P whole ∙ frame-given, same-costs (ofSheet S) P whole ∙ costs-given, same-marks (ofSheet S) P whole ∙ marks-given)
 
     -- written and read back gives the same tables, in any tables that are long enough
-    pub tables-back : (f c k : List ℕ) → n * 3 ≤ length f → m ≤ length c → m * (n * 2) ≤ length k → reading S f c k ≡ outcome (Held n m) (over (take (n * 3) frame) f) (over (take m costs) c) (over (take (m * (n * 2)) marks) k)
+    pub tables-back : (f c k : List ℕ) → n * 3 ≤ length f → m ≤ length c → m * (n * 2) ≤ length k → reading S f c k ≡ readOutcome (Held n m) (over (take (n * 3) frame) f) (over (take m costs) c) (over (take (m * (n * 2)) marks) k)
     unfolding reading entries
     tables-back f c k hf hc hk =
         simp (eq-eqb (refusal (readChecks S f c k)) 0 (no-refusal S f c k (written-accepted P ok fits-tenths) (rw (written-counts .0) hf) (rw (written-counts .1) hc) (rw (written-counts .0, written-counts .1) hk)))
-        (λ t. outcome (Held (written-counts .0 t) (written-counts .1 t)) (over (tables-found .0 t) f) (over (tables-found .1 t) c) (over (tables-found .2 t) k))
+        (λ t. readOutcome (Held (written-counts .0 t) (written-counts .1 t)) (over (tables-found .0 t) f) (over (tables-found .1 t) c) (over (tables-found .2 t) k))
 
 -- ---- a writer refuses nothing of accepted fields where the bytes are enough
 write-fine : (p : Source) (sheet : List ℕ) → judged (entries p) ≡ 0 → modelBytes (columnsIn p) (stepsIn p) ≤ length sheet → refusal (writeChecks p sheet) ≡ 0

@@ -20,7 +20,7 @@ use Rattle.sheets.proofs.SheetLaws.{H, C, S, F, part-header, part-columns, part
 use Rattle.sheets.proofs.HoldLaws.{at-columns, at-steps, at-fill, sheet-bits, whole-bytes}
 use Rattle.sheets.proofs.RoundLaws.{fits}
 use Rattle.writing.specs.declared.write.SheetWritten.the-variants.{Sheet, Refused}
-use Rattle.writing.specs.Writing.{outcome, writing}
+use Rattle.writing.specs.Writing.{writeOutcome, writing}
 
 -- the rows of a model's marks lie low
 pub row-le : (n j : ℕ) → n ≤ limits .columns → j < limits .steps → j * (n * 2) ≤ limits .steps * (limits .columns * 2)
@@ -78,16 +78,16 @@ module _ (p : Source) (l : List ℕ) where
   abbrev bytes : ℕ
   bytes = modelBytes (columnsIn p) (stepsIn p)
 
-  refused : {r : ℕ} → r ≡ refusal (writeChecks p l) → (r ≡ 0 → ⊥) → outcome (Refused r) l ≡ writing p l
+  refused : {r : ℕ} → r ≡ refusal (writeChecks p l) → (r ≡ 0 → ⊥) → writeOutcome (Refused r) l ≡ writing p l
   unfolding writing
-  refused e z = refused-is (λ n. outcome (Refused n) l) (writeChecks p l) _ e z
+  refused e z = refused-is (λ n. writeOutcome (Refused n) l) (writeChecks p l) _ e z
 
-  pub fields-refused : {r : ℕ} → r ≡ judged (entries p) → (r ≡ 0 → ⊥) → outcome (Refused r) l ≡ writing p l
+  pub fields-refused : {r : ℕ} → r ≡ judged (entries p) → (r ≡ 0 → ⊥) → writeOutcome (Refused r) l ≡ writing p l
   unfolding writeChecks
   fields-refused e h = refused (last-stopped (entries p) (tooFew bytes l ∷ []) e h) h
 
   module _ {r : ℕ} (e : r ≡ judged (entries p)) (z : r ≡ 0) where
-    pub room-refused : length l < bytes → outcome (Refused 8) l ≡ writing p l
+    pub room-refused : length l < bytes → writeOutcome (Refused 8) l ≡ writing p l
     unfolding writeChecks
     room-refused h = refused (last-went (entries p) (tooFew bytes l ∷ []) e z (applies 8 _ [] (lt-ltb (length l) bytes h) (omega arith))) (omega arith)
 
@@ -95,11 +95,11 @@ module _ (p : Source) (l : List ℕ) where
     unfolding writeChecks
     accepted-write h = sym (last-went (entries p) (tooFew bytes l ∷ []) e z (passes 8 _ [] (le-ltb (length l) bytes h) no-checks))
 
-    pub put-written : ((j : ℕ) → j < stepsIn p → p .cost j .value < 2 ^ 16) → Bytes l → {b : ℕ} {t : List ℕ} → b ≡ bytes → bytes ≤ length l → t ≡ packed 0 (entries p) l → outcome (Sheet b) t ≡ writing p l
+    pub put-written : ((j : ℕ) → j < stepsIn p → p .cost j .value < 2 ^ 16) → Bytes l → {b : ℕ} {t : List ℕ} → b ≡ bytes → bytes ≤ length l → t ≡ packed 0 (entries p) l → writeOutcome (Sheet b) t ≡ writing p l
     unfolding writing over entries
     put-written costs bl {b} {t} q h et =
         simp (eq-eqb (refusal (writeChecks p l)) 0 (accepted-write h))
-        (λ k. outcome (Sheet (q k)) ((et ∙ packed-over (entries p) bytes (fits p (sym e ∙ z) costs) (sheet-bits p (columnsIn p) (stepsIn p) ∙ whole-bytes (columnsIn p) (stepsIn p)) l bl h) k))
+        (λ k. writeOutcome (Sheet (q k)) ((et ∙ packed-over (entries p) bytes (fits p (sym e ∙ z) costs) (sheet-bits p (columnsIn p) (stepsIn p) ∙ whole-bytes (columnsIn p) (stepsIn p)) l bl h) k))
 
 -- the counts of an accepted model
 pub given-fine : (n m : ℕ) (frame costs marks : List ℕ) → judged (entries (ofTables n m frame costs marks)) ≡ 0 → (n ≤ limits .columns) × (m ≤ limits .steps)

@@ -15,20 +15,20 @@ unfoldable pub number : SheetWritten → ℕ
 number (Sheet bytes) = 0
 number (Refused n) = n
 
-pub record Outcome : Type 0 where
+pub record WriteOutcome : Type 0 where
   pub answer : SheetWritten
   pub sheet : List ℕ
 
-abbrev pub outcome : SheetWritten → List ℕ → Outcome
-outcome a sheet = record { answer = a; sheet = sheet }
+abbrev pub writeOutcome : SheetWritten → List ℕ → WriteOutcome
+writeOutcome a sheet = record { answer = a; sheet = sheet }
 
 -- a refusal returns only its number and changes nothing lent; else the bytes are the sheet, and those past it stay
-unfoldable pub writing : Source → List ℕ → Outcome
+unfoldable pub writing : Source → List ℕ → WriteOutcome
 writing p sheet =
     unlessRefused (refusal (writeChecks p sheet))
-    (outcome (Sheet (modelBytes (columnsIn p) (stepsIn p))) (over (sheetOf (entries p)) sheet))
-    (λ n. outcome (Refused n) sheet)
+    (writeOutcome (Sheet (modelBytes (columnsIn p) (stepsIn p))) (over (sheetOf (entries p)) sheet))
+    (λ n. writeOutcome (Refused n) sheet)
 
 -- what `write_model` promises, whatever is passed: the answer and the bytes at exit
 abbrev pub WritesModel : (columns steps : ℕ) (frame costs marks sheet : List ℕ) → SheetWritten → (sheet′ : List ℕ) → Type 0
-WritesModel columns steps frame costs marks sheet r sheet′ = outcome r sheet′ ≡ writing (ofTables columns steps frame costs marks) sheet
+WritesModel columns steps frame costs marks sheet r sheet′ = writeOutcome r sheet′ ≡ writing (ofTables columns steps frame costs marks) sheet

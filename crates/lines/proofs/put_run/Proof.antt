@@ -26,12 +26,12 @@ row-count-requires c κs = search needs
 
 put-rows-requires : tie.Need-put-rows-requires
 put-rows-requires c κs =
-    let put-first-line-at = c .before .before .before .before in
+    let put-first-line-at = c .before .before .before .before .before in
     let run-at = put-first-line-at .before .before .before .before .before .before in
     let entry = run-at .before .before .before .before .before .before .before in
     let g = entry .args in
     let p = entry .pre in
-    rows-go (g .sheet .now) (g .room) (g .cuts .now) (g .rows .now) (p .0, p .1) (run-at .run .ensures) (c .before .row-count .ensures) (p .2)
+    rows-go (g .sheet .now) (g .room) (g .cuts .now) (g .rows .now) (p .0, p .1) (run-at .run .ensures) (c .before .before .row-count .ensures) (p .2)
     (put-first-line-at .put-first-line .ensures)
 
 same-length : tie.Need-same-length
@@ -45,7 +45,7 @@ same-length-3 c = search needs
 
 returns : tie.Need-returns
 returns c =
-    let row-count-at = c .before .before .before .before in
+    let row-count-at = c .before .before .before .before .before in
     let put-first-line-at = row-count-at .before .before .before in
     let run-at = put-first-line-at .before .before .before .before .before .before in
     let entry = run-at .before .before .before .before .before .before .before in

@@ -3,7 +3,7 @@ use lib.ListN.{length, replicate}
 use Rattle.task.proofs.LoopLaws.{over-length}
 use native.Mathlib.Omega.{arith}
 use Rattle.refining.specs.Refining.{lookOf, KnownSeen}
-use Rattle.refining.proofs.LookLaws.{narrow, start-is, place-small, cut-small, from-made, no-way, steps-small, begins, walks, told-seen, told-known}
+use Rattle.refining.proofs.LookLaws.{narrow, start-is, place-small, cut-small, from-made, no-way, steps-small, begins, walks, see-seen, see-known}
 use borrow.Author.Needs.{needs}
 use Rattle.refining.proofs.look.Statement.{statement}
 use Rattle.refining.proofs.look.Tie as tie
@@ -12,7 +12,7 @@ use Rattle.refining.proofs.look.Lts as lts
 use Rattle.cutting.proofs.block_of.Reads as block-of-reads
 use Rattle.settling.proofs.fill_distances.Reads as fill-distances-reads
 use Rattle.standing.proofs.stand.Reads as stand-reads
-use Rattle.refining.proofs.told.Reads as told-reads
+use Rattle.refining.proofs.see.Reads as see-reads
 use Rattle.walk.proofs.follow.Reads as follow-reads
 
 add-count : tie.Need-add-count
@@ -68,8 +68,8 @@ follow-requires c κs = let p = c .before .before .before .before .before .befor
     let w = narrow (r .task) (r .given) (r .stand) (p .0 .0) in
     (w .0, w .1, p .0 .2, omega (arith, p .0 .0), from-made (r .task) (r .given) (r .stand) (p .0 .0) f, steps-small (r .task) (r .given) (r .stand) (p .0 .0) f (c .before .before .before .before .before .before .before .before .before .before .before .before .before .args .dist .now) (c .before .before .before .before .before .before .before .before .before .fill-distances .ensures .0 (r .task) (r .given .tables)) (c .before .before .before .before .before .if1 .left), ap length (c .before .before .before .stand .ensures) ∙ over-length _ _ (replicate 16 0) (w .0), p .0 .4)
 
-told-requires : tie.Need-told-requires
-told-requires c κs = c .before .before .before .before .before .before .if1 .left
+see-requires : tie.Need-see-requires
+see-requires c κs = c .before .before .before .before .before .before .if1 .left
 
 returns-2 : tie.Need-returns-2
 returns-2 c = let p = c .before .before .before .before .before .before .before .before .before .before .before .before .before .before .before .pre in
@@ -77,8 +77,8 @@ returns-2 c = let p = c .before .before .before .before .before .before .before 
       λ t g m.
           let f = c .before .before .before .before .before .before .before .before .before .before .block-of .ensures .1 t (g .task) (m .ok) (start-is t g m (p .0 .0)) in
           let d = c .before .before .before .before .before .before .before .before .before .before .before .fill-distances .ensures .0 t (g .tables) in
-          rw (c .told .ensures) (told-seen _ _ _ ∙ walks t g m (p .0 .0) f (c .before .before .before .before .before .before .before .before .before .before .before .before .before .before .before .args .dist .now) d (c .before .before .before .before .before .before .before .if1 .left) (w .1 .1 t _ _ _ (begins t g m (p .0 .0) f (c .before .before .before .before .before .before .before .before .before .before .before .before .before .before .before .args .dist .now) d (c .before .before .before .before .before .before .before .if1 .left) _ (c .before .before .before .before .before .stand .ensures)))),
-      (rw (c .told .ensures) (told-known _ _ _ _ (w .1 .0 .0)), c .before .before .before .before .before .before .before .before .before .before .before .fill-distances .ensures .1, w .1 .0 .2),
+          rw (c .see .ensures) (see-seen _ _ _ ∙ walks t g m (p .0 .0) f (c .before .before .before .before .before .before .before .before .before .before .before .before .before .before .before .args .dist .now) d (c .before .before .before .before .before .before .before .if1 .left) (w .1 .1 t _ _ _ (begins t g m (p .0 .0) f (c .before .before .before .before .before .before .before .before .before .before .before .before .before .before .before .args .dist .now) d (c .before .before .before .before .before .before .before .if1 .left) _ (c .before .before .before .before .before .stand .ensures)))),
+      (rw (c .see .ensures) (see-known _ _ _ _ (w .1 .0 .0)), c .before .before .before .before .before .before .before .before .before .before .before .fill-distances .ensures .1, w .1 .0 .2),
     )
 
 pub look-spec : {M : Type 1} → statement M
@@ -96,5 +96,5 @@ look-spec =
     returns
     stand-requires
     follow-requires
-    told-requires
+    see-requires
     returns-2)

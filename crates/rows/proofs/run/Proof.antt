@@ -51,7 +51,7 @@ use Rattle.running.proofs.Answer as E
 use Rattle.running.proofs.Answer.Laws as E′
 use Rattle.task.specs.Sizes.{mostValues}
 use Rattle.running.specs.Counts.{rowCount}
-use Rattle.rows.specs.Rows.{filling, outcome, RowRuns, PutsRows}
+use Rattle.rows.specs.Rows.{filling, rowRunOutcome, RowRuns, PutsRows}
 use Rattle.rows.proofs.LentLaws.{arrayTy, MutOf, ShrOf, Elems, lend-mut, lend-shr, elems-room}
 use Rattle.rows.proofs.run_for as run-for
 use Rattle.rows.proofs.run_for.Symbol as run-for-def
@@ -279,7 +279,7 @@ module _ {M : Type 1} (𝓤 : URA M) (H : Heap 𝓤) (A : Atoms 𝓤) (W : Given
       -- [true; rows's token; the rows; the answer; true; cuts's; sheet's; true; the cuts; sheet]
       keep ! (6 ∷ 5 ∷ 1 ∷ 9 ∷ 8 ∷ 2 ∷ []) $
       by ! (exits a u is (ws .1 .1 .1 .0) lc (zs .0) lr
-      (ap (outcome a (ws .1 .1 .1 .0)) (ap (λ (f : _). f .rows) put ∙ ap (λ (j : ℕ). filling (r .now) (ws .1 .1 .1 .1 .0) j .rows) counted) ∙ told (r .now) refl)))))))))))))))))))))))))))))))))))))))))
+      (ap (rowRunOutcome a (ws .1 .1 .1 .0)) (ap (λ (f : _). f .rows) put ∙ ap (λ (j : ℕ). filling (r .now) (ws .1 .1 .1 .1 .0) j .rows) counted) ∙ told (r .now) refl)))))))))))))))))))))))))))))))))))))))))
 
 module _ {M : Type 1} (𝓤 : URA M) (H : Heap 𝓤) (A : Atoms 𝓤) (W : Given 𝓤 H A) (at-mem : Memory → SProp 𝓤) (run : Routine → Fun 𝓤) (𝓣 : Tables 𝓤 H)
     (known-run : Triple 𝓤 (𝓣 .C #rows·run-for) (RunFor 𝓤 H A at-mem run)) (known-count : Triple 𝓤 (𝓣 .C #rows·row-count) (RowCount 𝓤 H A at-mem run)) (known-put : Triple 𝓤 (𝓣 .C #rows·put-rows) (PutRows 𝓤 H A at-mem run)) where

@@ -3,7 +3,7 @@ use Rattle.task.specs.Loops.{over}
 use Rattle.run.specs.Run.{rowsOf}
 use Rattle.run.specs.Listing.{listed}
 use Rattle.refining.specs.Refining.{answerOf, blocksTold, KnownEnd, StepsFit}
-use Rattle.running.specs.Running.{PathCosts, told}
+use Rattle.running.specs.Running.{PathCosts, returned}
 use Rattle.running.proofs.RunningLaws.{plan-told}
 use borrow.Author.Needs.{needs}
 use Rattle.running.proofs.tell.Statement.{statement}
@@ -33,18 +33,18 @@ same-length : tie.Need-same-length
 same-length c = search needs
 
 returns : tie.Need-returns
-unfolding PathCosts told answerOf blocksTold rowsOf
+unfolding PathCosts returned answerOf blocksTold rowsOf
 returns c = λ t a.
     let e = c .before .before .before .before .before .ended .given .1 in
     let r = c .before .before .fill-rows .ensures t (rw e at a) in
     rw e (plan-told t _ _ _ _ r)
 
 returns-2 : tie.Need-returns-2
-unfolding told answerOf blocksTold rowsOf over listed
+unfolding returned answerOf blocksTold rowsOf over listed
 returns-2 c = λ t a. let e = c .before .ended2 .given .1 in rw e (refl, refl)
 
 returns-3 : tie.Need-returns-3
-unfolding told answerOf blocksTold rowsOf over listed
+unfolding returned answerOf blocksTold rowsOf over listed
 returns-3 c = λ t a. let e = c .before .ended3 .given .1 in rw e (refl, refl)
 
 pub tell-spec : {M : Type 1} → statement M
