@@ -11,7 +11,6 @@ use native.Mathlib.Omega.{arith}
 use lib.Pow.{pow-pos, pow-mono}
 use lib.Bits.{bitAnd, and-high, and-zero-r}
 use lib.ListN.{getD}
-use lib.Seq.{getD-drop}
 use borrow.Author.Tests.{eq-eqb, ne-eqb, le-ltb, lt-ltb}
 use Rattle.task.specs.declared.Column.{Column}
 use Rattle.task.specs.declared.Position.{Position}
@@ -26,7 +25,7 @@ use Rattle.task.proofs.LoopLaws.{all-ext, tab-at}
 use Rattle.task.proofs.TableLaws.{columns-of, steps-of, goal-of, need-of, effect-of, marked-none, marked-some}
 use Rattle.blocks.specs.Blocks.{PositionSet, holds, only, common, isEmpty, leadsAt, goalIn, blockAt, leads, goalBlock}
 use Rattle.blocks.specs.Flat.{past, rowOf, blocksIn}
-use Rattle.blocks.specs.Masks.{wants, landing, lies, passes, markSet, landSet, needSet, landsSet, goalSet, needSets, landSets, goalSets, Told, rowsFrom, allLie, leadsBy, goalBy}
+use Rattle.blocks.specs.Masks.{wants, landing, lies, passes, markSet, landSet, needSet, landsSet, goalSet, needSets, landSets, goalSets, Told, allLie, leadsBy, goalBy}
 use Rattle.blocks.proofs.PartLaws.{same-or-not}
 use Rattle.blocks.proofs.FlatLaws.{past-start, block-at, set-at}
 
@@ -173,15 +172,3 @@ module _ (t : Task) (columns count : ℕ) (needs lands goals sets : List ℕ) (t
       (all-ext columns _ _ (λ j h.
       let k : j < columnCount t = omega arith in
       rw (past-start goals j, told .goal (column j) k, set-at columns sets (a .0) (column j) h) (lies-goal (goalAt t (column j)) _)))
-
--- ---- the tables in one array
-module _ (r : ℕ) (tables : List ℕ) where
-  pub from-past : (s j : ℕ) → past (rowsFrom r tables) (rowOf s) j ≡ past tables (rowOf (r + s)) j
-  unfolding past rowsFrom
-  from-past s j =
-      let e : rowOf r + (rowOf s + j) ≡ rowOf (r + s) + j = omega arith in
-      getD-drop (rowOf r) tables (rowOf s + j) 0 ∙ ap (λ (n : ℕ). getD tables n 0) e
-
-  pub from-at : (j : ℕ) → getD (rowsFrom r tables) j 0 ≡ past tables (rowOf r) j
-  unfolding past rowsFrom
-  from-at j = getD-drop (rowOf r) tables j 0

@@ -5,15 +5,14 @@ use mathlib.Core.Option.{Option, none, some}
 use mathlib.Core.Path.{_≡_}
 use Prim.Native.Nat.{ℕ, _-_, _*_, _<_}
 use lib.Dec.{eqb, ltb}
-use lib.ListN.{getD, drop}
+use lib.ListN.{getD}
 use Rattle.task.specs.declared.Column.{Column}
 use Rattle.task.specs.declared.Position.{Position}
 use Rattle.task.specs.declared.Step.{Step}
 use Rattle.task.specs.declared.Mark.{Mark}
 use Rattle.task.specs.declared.Model.{Model}
-use Rattle.task.specs.declared.Shape.{Shape}
 use Rattle.task.specs.Loops.{all, tab}
-use Rattle.task.specs.Sizes.{limits, landsRow, goalRow, startRow}
+use Rattle.task.specs.Sizes.{limits}
 use Rattle.task.specs.Task.{Task, State, position, at, columnCount, stepCount, costOf, needAt, effectAt, goalAt}
 use Rattle.task.specs.Tables.{mark}
 use Rattle.blocks.specs.Blocks.{PositionSet, only, common, without, isEmpty}
@@ -79,21 +78,6 @@ pub record Told (t : Task) (needs lands goals : List PositionSet) : Type 0 where
   pub land : (s : Step) (j : Column) → s .0 < stepCount t → j .0 < columnCount t → past lands (rowOf (s .0)) (j .0) ≡ landing (needAt t s j) (effectAt t s j)
   pub goal : (j : Column) → j .0 < columnCount t → getD goals (j .0) 0 ≡ wants (goalAt t j)
 
--- ---- the tables in one array: a row for what each step needs, then for where each lands, then the goal, then the start as it stands
-
--- the rows from row r on
-unfoldable pub rowsFrom : ℕ → List ℕ → List ℕ
-rowsFrom r tables = drop (rowOf r) tables
-
-abbrev pub landsIn : List ℕ → List ℕ
-landsIn tables = rowsFrom landsRow tables
-
-abbrev pub goalsIn : List ℕ → List ℕ
-goalsIn tables = rowsFrom goalRow tables
-
-abbrev pub startIn : List ℕ → List ℕ
-startIn tables = rowsFrom startRow tables
-
 -- a row of sets with one position each holds the positions of a state
 unfoldable pub Stands : Task → State → List PositionSet → Type 0
 Stands t x here = (j : Column) → j .0 < columnCount t → getD here (j .0) 0 ≡ only (at x j)
@@ -104,10 +88,6 @@ pub record Tables (t : Task) (columns steps : ℕ) (needs lands goals costs : Li
   pub long : stepCount t ≡ steps
   pub told : Told t needs lands goals
   pub cost : (s : Step) → s .0 < steps → costOf t s ≡ getD costs (s .0) 0
-
--- the same where they stand in one array
-abbrev pub TablesOf : Task → Shape → (tables costs : List ℕ) → Type 0
-TablesOf t f tables costs = Tables t (f .columns) (f .steps) tables (landsIn tables) (goalsIn tables) costs
 
 -- ---- the tests on the tables
 

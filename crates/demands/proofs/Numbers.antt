@@ -6,10 +6,11 @@ use native.Mathlib.Nat.{add-zero}
 use mathlib.Core.Path.{_≡_, _∙_}
 use mathlib.Core.List.{List}
 use lib.ListN.{length, getD, List·getD-append}
+use Rattle.fields.specs.Bits.{byteValues}
 use Rattle.task.specs.Loops.{over}
 use Rattle.fields.specs.Judging.{each}
 use Rattle.fields.proofs.PlaceLaws.{each-length, each-at}
-use Rattle.values.specs.Values.{valueBytes, bytesAt, bytesOf, valueOn, byte}
+use Rattle.values.specs.Values.{valueBytes, bytesAt, bytesOf, valueOn}
 use Rattle.values.proofs.ValueLaws.{four}
 
 -- ---- an answer's parts, as the header takes them
@@ -35,11 +36,11 @@ pub takes-apart : (k b n v : ℕ) → b < 2 ^ 12 → n < 2 ^ 12 → v < 2 ^ 32 �
 takes-apart k b n v hb hn hv = record { kind-is = omega arith; blocks-is = omega arith; steps-is = omega arith; value-is = omega arith }
 
 -- ---- value k of a list of bytes, as a C program takes it
-four-bytes : (v : ℕ) → v < 2 ^ 32 → v / 2 ^ 24 % byte * 2 ^ 24 + v / 2 ^ 16 % byte * 2 ^ 16 + v / 2 ^ 8 % byte * 2 ^ 8 + v % byte ≡ v
+four-bytes : (v : ℕ) → v < 2 ^ 32 → v / 2 ^ 24 % byteValues * 2 ^ 24 + v / 2 ^ 16 % byteValues * 2 ^ 16 + v / 2 ^ 8 % byteValues * 2 ^ 8 + v % byteValues ≡ v
 four-bytes v h =
-    let a : v / 2 ^ 8 / byte ≡ v / 2 ^ 16 = omega arith in
-    let b : v / 2 ^ 16 / byte ≡ v / 2 ^ 24 = omega arith in
-    let c : v / 2 ^ 24 % byte ≡ v / 2 ^ 24 = omega arith in
+    let a : v / 2 ^ 8 / byteValues ≡ v / 2 ^ 16 = omega arith in
+    let b : v / 2 ^ 16 / byteValues ≡ v / 2 ^ 24 = omega arith in
+    let c : v / 2 ^ 24 % byteValues ≡ v / 2 ^ 24 = omega arith in
     omega (arith, a, b, c)
 
 module _ (vs bytes₀ : List ℕ) (k : ℕ) (h : k < length vs) where
@@ -53,5 +54,5 @@ module _ (vs bytes₀ : List ℕ) (k : ℕ) (h : k < length vs) where
   pub value-back : getD vs k 0 < 2 ^ 32 → valueOn (over (bytesOf vs) bytes₀) k ≡ getD vs k 0
   unfolding valueBytes
   value-back small =
-      let z : getD (over (bytesOf vs) bytes₀) (k * 4) 0 ≡ getD vs k 0 / 2 ^ 24 % byte = rw add-zero at (byte-at 0 (omega arith)) in
+      let z : getD (over (bytesOf vs) bytes₀) (k * 4) 0 ≡ getD vs k 0 / 2 ^ 24 % byteValues = rw add-zero at (byte-at 0 (omega arith)) in
       rw (z, byte-at 1 (omega arith), byte-at 2 (omega arith), byte-at 3 (omega arith)) (four-bytes (getD vs k 0) small)

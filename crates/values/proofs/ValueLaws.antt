@@ -5,15 +5,16 @@ use mathlib.Core.Path.{_≡_, refl, sym, ap, _∙_}
 use mathlib.Core.List.{List, _++_, append-assoc, map, map-append}
 use lib.IntN.{ℤ, pos}
 use lib.ListN.{length, getD, set, drop, length-map, List·getD-append, List·getD-map}
+use Rattle.fields.specs.Bits.{byteValues}
 use Rattle.task.specs.Loops.{over}
 use Rattle.fields.specs.Judging.{each}
 use Rattle.fields.specs.Places.{puts}
 use Rattle.fields.proofs.JudgingLaws.{each-ext}
 use Rattle.fields.proofs.PlaceLaws.{each-length, puts-next, puts-over}
-use Rattle.values.specs.Values.{byte, valueBytes, bytesAt, bytesOf, twos, signedBytes}
+use Rattle.values.specs.Values.{valueBytes, bytesAt, bytesOf, twos, signedBytes}
 
 pub put-four : (l : List ℕ) (at v : ℕ)
-    → set (set (set (set l at (v / 2 ^ 24 % byte)) (at + 1) (v / 2 ^ 16 % byte)) (at + 2) (v / 2 ^ 8 % byte)) (at + 3) (v % byte) ≡ puts at (valueBytes v) l
+    → set (set (set (set l at (v / 2 ^ 24 % byteValues)) (at + 1) (v / 2 ^ 16 % byteValues)) (at + 2) (v / 2 ^ 8 % byteValues)) (at + 3) (v % byteValues) ≡ puts at (valueBytes v) l
 unfolding puts valueBytes
 put-four l at v =
     let e : at + 2 ≡ at + 1 + 1 = omega arith in

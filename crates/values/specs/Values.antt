@@ -3,6 +3,7 @@ use Prim.Native.Nat.{ℕ, suc, _+_, _-_, _*_, _/_, _%_, _^_}
 use mathlib.Core.List.{List, [], _∷_, map}
 use lib.IntN.{ℤ, pos, negsuc}
 use lib.ListN.{length, getD}
+use Rattle.fields.specs.Bits.{byteValues}
 use Rattle.task.specs.Loops.{tab}
 use Rattle.task.specs.Sizes.{limits}
 use Rattle.fields.specs.Judging.{each}
@@ -11,13 +12,9 @@ use Rattle.fields.specs.Judging.{each}
 abbrev pub tooMany : ℕ
 tooMany = limits .blocks * 4
 
--- how many numbers a byte has
-abbrev pub byte : ℕ
-byte = 2 ^ 8
-
 -- a value is four bytes, most significant first
 unfoldable pub valueBytes : ℕ → List ℕ
-valueBytes v = v / 2 ^ 24 % byte ∷ v / 2 ^ 16 % byte ∷ v / 2 ^ 8 % byte ∷ v % byte ∷ []
+valueBytes v = v / 2 ^ 24 % byteValues ∷ v / 2 ^ 16 % byteValues ∷ v / 2 ^ 8 % byteValues ∷ v % byteValues ∷ []
 
 -- the bytes of value i of a list
 unfoldable pub bytesAt : List ℕ → ℕ → List ℕ

@@ -1,17 +1,19 @@
 use Prim.Native.Nat.{_-_, _≤_}
 use native.Mathlib.Omega.{arith}
-use mathlib.Core.Path.{_≡_, refl}
+use mathlib.Core.Path.{_≡_, refl, sym}
 use Rattle.task.specs.Task.{position}
 use Rattle.task.specs.Loops.{tab, over}
 use Rattle.sheets.specs.Holding.{unused}
-use Rattle.unpack.proofs.UnpackLaws.{begun, grown, ended}
+use Rattle.task.specs.Sizes.{limits}
+use Rattle.task.proofs.LoopLaws.{over-none, over-set, over-end}
+use Rattle.unpack.proofs.UnpackLaws.{unused-length}
 use Rattle.asking.specs.Question.{placeIn, stateIn, wideState}
 use borrow.Author.Needs.{needs}
 use Rattle.asking.proofs.read_state.Statement.{statement}
 use Rattle.asking.proofs.read_state.Tie as tie
 
 abbrev Inv-loop : tie.InvT-loop
-Inv-loop states columns k from state₀ j₀ state j = (j ≤ columns) × (state ≡ over (tab j (placeIn columns states k)) (unused 16 (position 0)))
+Inv-loop states columns k from state₀ j₀ state j = (j ≤ columns) × (state ≡ over (tab j (placeIn columns states k)) (unused (limits .columns) (position 0)))
 
 abbrev μ-loop : tie.MeasureT-loop
 μ-loop states columns k from state₀ j₀ state j = columns - j
@@ -21,7 +23,7 @@ mul-from c = search needs
 
 loop-holds : tie.Need-loop-holds Inv-loop μ-loop
 unfolding unused
-loop-holds c = (omega arith, begun _ 16 (position 0))
+loop-holds c = (omega arith, sym (over-none _ _))
 
 add-t9 : tie.Need-add-t9 Inv-loop μ-loop
 add-t9 c = search needs
@@ -42,12 +44,12 @@ loop-again : tie.Need-loop-again Inv-loop μ-loop
 unfolding placeIn
 loop-again c = let g = c .before .before .before .args in
     let l = c .before .before .loop in
-    (omega arith, grown (placeIn (g .columns) (g .states .now) (g .k)) 16 (position 0) (l .j) (omega arith) (l .inv .1) refl)
+    (omega arith, over-set (placeIn (g .columns) (g .states .now) (g .k)) (l .j) _ (l .state) (unused (limits .columns) (position 0)) (l .inv .1) (omega (arith, unused-length (limits .columns) (position 0))) refl)
 
 returns : tie.Need-returns Inv-loop μ-loop
 unfolding wideState stateIn
 returns c = let l = c .before .loop in
-    ended _ 16 (position 0) (l .j) (c .before .before .args .columns) (omega arith) (omega arith) (l .inv .1)
+    over-end _ _ (l .j) (c .before .before .args .columns) (omega arith) (omega arith) (l .inv .1)
 
 pub read-state-spec : {M : Type 1} → statement M
 read-state-spec =
