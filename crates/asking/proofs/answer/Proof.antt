@@ -42,23 +42,45 @@ slice-aggregate-fill-estimates c = search needs
 
 fill-estimates-requires : tie.Need-fill-estimates-requires
 unfolding statesIn
-fill-estimates-requires c κs = let g = c .before .before .before .before .before .before .before .before .before .before .before .before .args in
+fill-estimates-requires c κs =
+    let fill-cuts-at = c .before .before .before .before .before .before in
+    let field-at = fill-cuts-at .before .before in
+    let entry = field-at .before .before .before .before in
+    let g = entry .args in
     let m = g .model in
-    let p = c .before .before .before .before .before .before .before .before .before .before .before .before .pre in
+    let p = entry .pre in
     let v = p .0 in
-    let e = c .before .before .before .before .before .before .before .before .field .ensures in
-    let h = count-below (g .part .now) e in
-    (omega (arith, v .columns .0, columns-of m), omega (arith, v .columns .1, columns-of m), h, search (needs, h), rw (columns-of m) at (few-states (taskOf m) (g .states .now) (p .3)), rw (columns-of m) at (p .4), column-small (taskOf m) (columns-of m) v (g .part .now) (g .sets .now) (p .1) (p .2) e h (replicate mostValues 0) (search (needs, h)) (c .before .before .before .before .before .before .fill-cuts .ensures), byte-fits (taskOf m) (g .states .now) (p .3) v, dist-small (taskOf m) (columns-of m) v (g .part .now) (g .sets .now) (p .1) (p .2) e h (replicate mostValues 0) (search (needs, h)) (c .before .before .before .before .before .before .fill-cuts .ensures) (replicate (limits .blocks) 0) (c .before .before .before .measure .ensures))
+    let e = field-at .field .ensures in
+    let h = count-below (g .part .now) e in (
+      omega (arith, v .columns .0, columns-of m),
+      omega (arith, v .columns .1, columns-of m),
+      h,
+      search (needs, h),
+      rw (columns-of m) at (few-states (taskOf m) (g .states .now) (p .3)),
+      rw (columns-of m) at (p .4),
+      column-small (taskOf m) (columns-of m) v (g .part .now) (g .sets .now) (p .1) (p .2) e h (replicate mostValues 0) (search (needs, h))
+          (fill-cuts-at .fill-cuts .ensures),
+      byte-fits (taskOf m) (g .states .now) (p .3) v,
+      dist-small (taskOf m) (columns-of m) v (g .part .now) (g .sets .now) (p .1) (p .2) e h (replicate mostValues 0) (search (needs, h))
+          (fill-cuts-at .fill-cuts .ensures) (replicate (limits .blocks) 0) (c .before .before .before .measure .ensures),
+    )
 
 same-length : tie.Need-same-length
 same-length c = search needs
 
 returns : tie.Need-returns
-returns c = let g = c .before .before .before .before .before .before .before .before .before .before .before .before .before .before .before .args in
-    let p = c .before .before .before .before .before .before .before .before .before .before .before .before .before .before .before .pre in
-    let e = c .before .before .before .before .before .before .before .before .before .before .before .field .ensures in
+returns c =
+    let measure-at = c .before .before .before .before .before .before in
+    let fill-cuts-at = measure-at .before .before .before in
+    let field-at = fill-cuts-at .before .before in
+    let entry = field-at .before .before .before .before in
+    let g = entry .args in
+    let p = entry .pre in
+    let e = field-at .field .ensures in
     let h = count-below (g .part .now) e in
-    answered (taskOf (g .model)) (columns-of (g .model)) (p .0) (g .part .now) (g .sets .now) (p .1) (p .2) e h (replicate mostValues 0) (search (needs, h)) (c .before .before .before .before .before .before .before .before .before .fill-cuts .ensures) (replicate (limits .blocks) 0) (c .before .before .before .before .before .before .measure .ensures) (g .states .now) (g .estimates .now) (p .3) (c .before .before .fill-estimates .ensures)
+    answered (taskOf (g .model)) (columns-of (g .model)) (p .0) (g .part .now) (g .sets .now) (p .1) (p .2) e h (replicate mostValues 0) (search (needs, h))
+    (fill-cuts-at .fill-cuts .ensures) (replicate (limits .blocks) 0) (measure-at .measure .ensures) (g .states .now) (g .estimates .now) (p .3)
+    (c .before .before .fill-estimates .ensures)
 
 pub answer-spec : {M : Type 1} → statement M
 answer-spec =

@@ -38,49 +38,75 @@ end-requires c κs =
     omega (arith, c .before .before .before .before .before .before .loop .inv .grown (r .task) (r .given) (r .stand) .within, p .0 .0)
 
 same-length : tie.Need-same-length Inv-loop μ-loop
-same-length c = let r = c .before .before .before .before .before .before .before .before .before .before .pre .1 in c .before .before .before .before .before .before .before .loop .inv .grown (r .task) (r .given) (r .stand) .same
+same-length c =
+    let loop-at = c .before .before .before .before .before .before .before in
+    let entry = loop-at .before .before .before in
+    let r = entry .pre .1 in
+    loop-at .loop .inv .grown (r .task) (r .given) (r .stand) .same
 
 returns : tie.Need-returns Inv-loop μ-loop
 returns c =
-    let p = c .before .before .before .before .before .before .before .before .before .before .pre .0 in
+    let loop-at = c .before .before .before .before .before .before .before in
+    let entry = loop-at .before .before .before in
+    let p = entry .pre .0 in
     let e = c .before .before .look .ensures in
-    (run-full (p .0) (p .1) (c .before .before .before .before .before .before .before .loop .inv) _ _ (e .0) (e .1 .0) (c .end .ensures) (c .before .if1 .taken), e .1 .2)
+    (run-full (p .0) (p .1) (loop-at .loop .inv) _ _ (e .0) (e .1 .0) (c .end .ensures) (c .before .if1 .taken), e .1 .2)
 
 enum-known-seen : tie.Need-enum-known-seen Inv-loop μ-loop
 enum-known-seen c = search needs
 
 end-requires-2 : tie.Need-end-requires-2 Inv-loop μ-loop
-end-requires-2 c κs = omega (arith, c .before .if1 .left, c .before .before .before .before .before .before .before .before .before .before .pre .0 .0)
+end-requires-2 c κs =
+    let back = c .before .before .before .before .before .before .before .before in
+    let entry = back .before .before in
+    omega (arith, c .before .if1 .left, entry .pre .0 .0)
 
 same-length-2 : tie.Need-same-length-2 Inv-loop μ-loop
-same-length-2 c = let r = c .before .before .before .before .before .before .before .before .before .before .before .pre .1 in c .before .before .before .before .before .before .before .before .loop .inv .grown (r .task) (r .given) (r .stand) .same
+same-length-2 c =
+    let loop-at = c .before .before .before .before .before .before .before .before in
+    let entry = loop-at .before .before .before in
+    let r = entry .pre .1 in
+    loop-at .loop .inv .grown (r .task) (r .given) (r .stand) .same
 
 returns-2 : tie.Need-returns-2 Inv-loop μ-loop
 returns-2 c =
-    let p = c .before .before .before .before .before .before .before .before .before .before .before .pre .0 in
-    let e = c .before .before .before .look .ensures in
-    (run-early (p .0) (p .1) (c .before .before .before .before .before .before .before .before .loop .inv) _ _ (e .0) (e .1 .0) (c .end2 .ensures) (no-flaw _ _ (λ n d f. let k = rw f at (c .before .match .keys2) in ⊎-elim (λ z. absurd (omega arith)) (λ z. absurd (omega arith)) k)), e .1 .2)
+    let loop-at = c .before .before .before .before .before .before .before .before in
+    let entry = loop-at .before .before .before in
+    let p = entry .pre .0 in
+    let e = c .before .before .before .look .ensures in (
+      run-early (p .0) (p .1) (loop-at .loop .inv) _ _ (e .0) (e .1 .0) (c .end2 .ensures)
+          (no-flaw _ _ (λ n d f. let k = rw f at (c .before .match .keys2) in ⊎-elim (λ z. absurd (omega arith)) (λ z. absurd (omega arith)) k)),
+      e .1 .2,
+    )
 
 put-cut-requires : tie.Need-put-cut-requires Inv-loop μ-loop
 put-cut-requires c κs =
-    let p = c .before .before .before .before .before .before .before .before .before .before .before .before .before .pre in
+    let if1-at = c .before .before .before .before in
+    let loop-at = if1-at .before .before .before .before .before .before in
+    let entry = loop-at .before .before .before in
+    let p = entry .pre in
     let r = p .1 in
-    let h = c .before .before .before .before .if1 .left in
-    (omega (arith, h, p .0 .0), omega (arith, c .before .before .before .before .before .before .before .before .before .before .loop .inv .grown (r .task) (r .given) (r .stand) .same, p .0 .1, h))
+    let h = if1-at .if1 .left in
+    (omega (arith, h, p .0 .0), omega (arith, loop-at .loop .inv .grown (r .task) (r .given) (r .stand) .same, p .0 .1, h))
 
 add-make-cut : tie.Need-add-make-cut Inv-loop μ-loop
 add-make-cut c = search needs
 
 make-cut-requires : tie.Need-make-cut-requires Inv-loop μ-loop
 make-cut-requires c κs =
-    let p = c .before .before .before .before .before .before .before .before .before .before .before .before .before .before .before .before .before .pre in
+    let seen-at = c .before .before .before .before .before .before in
+    let if1-at = seen-at .before .before in
+    let look-at = if1-at .before in
+    let loop-at = look-at .before .before .before .before .before in
+    let entry = loop-at .before .before .before in
+    let p = entry .pre in
     let r = p .1 in
-    let l = c .before .before .before .before .before .before .before .before .before .before .before .before .before .before .loop in
+    let l = loop-at .loop in
     let k = l .inv .grown (r .task) (r .given) (r .stand) in
-    let f = flaw-fits (p .0 .0) (p .0 .1) (l .inv) _ _ (c .before .before .before .before .before .before .before .before .before .look .ensures .0) (c .before .before .before .before .before .before .seen .given .1) (r .task) (r .given) (r .stand) in
+    let f = flaw-fits (p .0 .0) (p .0 .1) (l .inv) _ _ (look-at .look .ensures .0) (seen-at .seen .given .1) (r .task) (r .given) (r .stand) in
     record {
       wide = omega (arith, r .given .task .columns .1, r .given .tables .wide);
-      room = omega (arith, p .0 .0, c .before .before .before .before .before .before .before .before .if1 .left);
+      room = omega (arith, p .0 .0, if1-at .if1 .left);
       made = f .0;
       there = f .1;
       long = k .long;
@@ -88,8 +114,10 @@ make-cut-requires c κs =
 
 add-made : tie.Need-add-made Inv-loop μ-loop
 add-made c =
-    let p = c .before .before .before .before .before .before .before .before .before .before .before .before .before .before .before .before .before .before .pre .0 .0 in
-    let h = c .before .before .before .before .before .before .before .before .before .if1 .left in
+    let if1-at = c .before .before .before .before .before .before .before .before .before in
+    let entry = if1-at .before .before .before .before .before .before .before .before .before in
+    let p = entry .pre .0 .0 in
+    let h = if1-at .if1 .left in
     search (needs, p, h)
 
 loop-less : tie.Need-loop-less Inv-loop μ-loop
@@ -97,9 +125,16 @@ loop-less c = search needs
 
 loop-again : tie.Need-loop-again Inv-loop μ-loop
 loop-again c =
-    let p = c .before .before .before .before .before .before .before .before .before .before .before .before .before .before .before .before .before .before .pre .0 in
-    let e = c .before .before .before .before .before .before .before .before .before .before .look .ensures in
-    growing-more (p .0) (p .1) (c .before .before .before .before .before .before .before .before .before .before .before .before .before .before .before .loop .inv) _ _ (e .0) (c .before .before .before .before .before .before .before .seen .given .1) (c .before .before .before .before .before .before .before .before .before .if1 .left) (c .before .before .before .before .put-cut .ensures) (c .make-cut .ensures) (e .1 .1) (e .1 .2)
+    let put-cut-at = c .before .before .before .before in
+    let seen-at = put-cut-at .before .before .before in
+    let if1-at = seen-at .before .before in
+    let look-at = if1-at .before in
+    let loop-at = look-at .before .before .before .before .before in
+    let entry = loop-at .before .before .before in
+    let p = entry .pre .0 in
+    let e = look-at .look .ensures in
+    growing-more (p .0) (p .1) (loop-at .loop .inv) _ _ (e .0) (seen-at .seen .given .1) (if1-at .if1 .left) (put-cut-at .put-cut .ensures)
+    (c .make-cut .ensures) (e .1 .1) (e .1 .2)
 
 pub cut-on-spec : {M : Type 1} → statement M
 cut-on-spec =

@@ -62,23 +62,44 @@ stand-requires c κs = let p = c .before .before .before .before .before .before
     (narrow (r .task) (r .given) (r .stand) (p .0 .0) .0, search needs, place-small (r .task) (r .given) (r .stand) (p .0 .0))
 
 follow-requires : tie.Need-follow-requires
-follow-requires c κs = let p = c .before .before .before .before .before .before .before .before .before .before .before .before .before .pre in
+follow-requires c κs =
+    let if1-at = c .before .before .before .before .before in
+    let block-of-at = if1-at .before .before .before in
+    let fill-distances-at = block-of-at .before in
+    let entry = fill-distances-at .before .before .before .before in
+    let p = entry .pre in
     let r = p .1 in
-    let f = c .before .before .before .before .before .before .before .before .block-of .ensures .1 (r .task) (r .given .task) (r .stand .ok) (start-is (r .task) (r .given) (r .stand) (p .0 .0)) in
-    let w = narrow (r .task) (r .given) (r .stand) (p .0 .0) in
-    (w .0, w .1, p .0 .2, omega (arith, p .0 .0), from-made (r .task) (r .given) (r .stand) (p .0 .0) f, steps-small (r .task) (r .given) (r .stand) (p .0 .0) f (c .before .before .before .before .before .before .before .before .before .before .before .before .before .args .dist .now) (c .before .before .before .before .before .before .before .before .before .fill-distances .ensures .0 (r .task) (r .given .tables)) (c .before .before .before .before .before .if1 .left), ap length (c .before .before .before .stand .ensures) ∙ over-length _ _ (replicate 16 0) (w .0), p .0 .4)
+    let f = block-of-at .block-of .ensures .1 (r .task) (r .given .task) (r .stand .ok) (start-is (r .task) (r .given) (r .stand) (p .0 .0)) in
+    let w = narrow (r .task) (r .given) (r .stand) (p .0 .0) in (
+      w .0,
+      w .1,
+      p .0 .2,
+      omega (arith, p .0 .0),
+      from-made (r .task) (r .given) (r .stand) (p .0 .0) f,
+      steps-small (r .task) (r .given) (r .stand) (p .0 .0) f (entry .args .dist .now)
+          (fill-distances-at .fill-distances .ensures .0 (r .task) (r .given .tables)) (if1-at .if1 .left),
+      ap length (c .before .before .before .stand .ensures) ∙ over-length _ _ (replicate 16 0) (w .0),
+      p .0 .4,
+    )
 
 see-requires : tie.Need-see-requires
 see-requires c κs = c .before .before .before .before .before .before .if1 .left
 
 returns-2 : tie.Need-returns-2
-returns-2 c = let p = c .before .before .before .before .before .before .before .before .before .before .before .before .before .before .before .pre in
+returns-2 c =
+    let stand-at = c .before .before .before .before .before in
+    let if1-at = stand-at .before .before in
+    let block-of-at = if1-at .before .before .before in
+    let fill-distances-at = block-of-at .before in
+    let entry = fill-distances-at .before .before .before .before in
+    let p = entry .pre in
     let w = c .before .follow .ensures in (
       λ t g m.
-          let f = c .before .before .before .before .before .before .before .before .before .before .block-of .ensures .1 t (g .task) (m .ok) (start-is t g m (p .0 .0)) in
-          let d = c .before .before .before .before .before .before .before .before .before .before .before .fill-distances .ensures .0 t (g .tables) in
-          rw (c .see .ensures) (see-seen _ _ _ ∙ walks t g m (p .0 .0) f (c .before .before .before .before .before .before .before .before .before .before .before .before .before .before .before .args .dist .now) d (c .before .before .before .before .before .before .before .if1 .left) (w .1 .1 t _ _ _ (begins t g m (p .0 .0) f (c .before .before .before .before .before .before .before .before .before .before .before .before .before .before .before .args .dist .now) d (c .before .before .before .before .before .before .before .if1 .left) _ (c .before .before .before .before .before .stand .ensures)))),
-      (rw (c .see .ensures) (see-known _ _ _ _ (w .1 .0 .0)), c .before .before .before .before .before .before .before .before .before .before .before .fill-distances .ensures .1, w .1 .0 .2),
+          let f = block-of-at .block-of .ensures .1 t (g .task) (m .ok) (start-is t g m (p .0 .0)) in
+          let d = fill-distances-at .fill-distances .ensures .0 t (g .tables) in
+          rw (c .see .ensures)
+          (see-seen _ _ _ ∙ walks t g m (p .0 .0) f (entry .args .dist .now) d (if1-at .if1 .left) (w .1 .1 t _ _ _ (begins t g m (p .0 .0) f (entry .args .dist .now) d (if1-at .if1 .left) _ (stand-at .stand .ensures)))),
+      (rw (c .see .ensures) (see-known _ _ _ _ (w .1 .0 .0)), fill-distances-at .fill-distances .ensures .1, w .1 .0 .2),
     )
 
 pub look-spec : {M : Type 1} → statement M

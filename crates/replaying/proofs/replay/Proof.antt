@@ -43,10 +43,16 @@ part-replay-on-end c = let g = c .before .before .before .before .before .before
 
 -- src/lib.rt:189:5
 replay-on-requires : tie.Need-replay-on-requires
-replay-on-requires c κs = let g = c .before .before .before .before .before .before .before .before .before .before .args in
-    let j = c .before .before .before .before .before .judge-cut-sheet .ensures in
-    let z = c .before .before .before .before .if1 .left in
-    (rw (part-is (g .model .now) (g .sheet .now) [] j z) (fine (g .model .now) (g .sheet .now) (g .log .now) (g .rows .now) j z), c .before .before .before .if2 .left)
+replay-on-requires c κs =
+    let if1-at = c .before .before .before .before in
+    let judge-cut-sheet-at = if1-at .before in
+    let entry = judge-cut-sheet-at .before .before .before .before .before in
+    let g = entry .args in
+    let j = judge-cut-sheet-at .judge-cut-sheet .ensures in
+    let z = if1-at .if1 .left in (
+      rw (part-is (g .model .now) (g .sheet .now) [] j z) (fine (g .model .now) (g .sheet .now) (g .log .now) (g .rows .now) j z),
+      c .before .before .before .if2 .left,
+    )
 
 -- src/lib.rt:177:1
 same-length : tie.Need-same-length
@@ -55,10 +61,16 @@ same-length c = search needs
 -- src/lib.rt:177:1
 returns-3 : tie.Need-returns-3
 unfolding cutsOf
-returns-3 c = let g = c .before .before .before .before .before .before .before .before .before .before .before .before .args in
-    let j = c .before .before .before .before .before .before .before .judge-cut-sheet .ensures in
-    let z = c .before .before .before .before .before .before .if1 .left in
-    ends (g .model .now) (g .sheet .now) (g .log .now) (g .rows .now) j z (c .before .before .before .before .before .if2 .left) (rw (part-is (g .model .now) (g .sheet .now) [] j z) at (c .before .replay-on .ensures))
+returns-3 c =
+    let if2-at = c .before .before .before .before .before in
+    let if1-at = if2-at .before in
+    let judge-cut-sheet-at = if1-at .before in
+    let entry = judge-cut-sheet-at .before .before .before .before .before in
+    let g = entry .args in
+    let j = judge-cut-sheet-at .judge-cut-sheet .ensures in
+    let z = if1-at .if1 .left in
+    ends (g .model .now) (g .sheet .now) (g .log .now) (g .rows .now) j z (if2-at .if2 .left)
+    (rw (part-is (g .model .now) (g .sheet .now) [] j z) at (c .before .replay-on .ensures))
 
 pub replay-spec : {M : Type 1} → statement M
 replay-spec =

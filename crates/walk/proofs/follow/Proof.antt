@@ -46,14 +46,19 @@ enum-known-turn-2 c = search needs
 
 returns : tie.Need-returns Inv-loop μ-loop
 returns c =
-    let g = c .before .before .before .before .before .before .before .before .before .before .args in
-    let q = c .before .before .before .before .before .before .before .before .before .before .pre in
-    let l = c .before .before .before .before .before .before .loop in
+    let loop-test-at = c .before .before .before .before .before in
+    let loop-at = loop-test-at .before in
+    let entry = loop-at .before .before .before .before in
+    let g = entry .args in
+    let q = entry .pre in
+    let l = loop-at .loop in
     let h = c .before .before .before .hop in
     let w = c .before .turn2 .given in
-    answers (g .columns) (g .steps) (g .count) (g .«from») (g .needs .now) (g .lands .now) (g .goals .now) (g .costs .now) (g .sets .now) (g .dist .now) (g .here .now) (g .path .now) (q .3) (q .4) (q .7) _ _ _
-    (going-flawed (g .columns) (g .steps) (g .count) (g .needs .now) (g .lands .now) (g .goals .now) (g .costs .now) (g .sets .now) (g .dist .now) _ _ (l .i) (l .a) (l .here) (l .path) (l .inv) (h .result) _ (h .ensures .0) (h .ensures .1 .0) (c .before .before .before .before .before .loop-test .taken) (w .0 .0) (w .1))
-    (known-flawed (g .columns) (g .steps) (g .count) (g .needs .now) (g .lands .now) (g .goals .now) (g .costs .now) (g .sets .now) (g .dist .now) _ _ (l .i) (l .a) (l .here) (l .path) (l .inv) _) (h .ensures .1 .1) (l .inv .long)
+    answers (g .columns) (g .steps) (g .count) (g .«from») (g .needs .now) (g .lands .now) (g .goals .now) (g .costs .now) (g .sets .now) (g .dist .now)
+    (g .here .now) (g .path .now) (q .3) (q .4) (q .7) _ _ _
+    (going-flawed (g .columns) (g .steps) (g .count) (g .needs .now) (g .lands .now) (g .goals .now) (g .costs .now) (g .sets .now) (g .dist .now) _ _ (l .i) (l .a) (l .here) (l .path) (l .inv) (h .result) _ (h .ensures .0) (h .ensures .1 .0) (loop-test-at .loop-test .taken) (w .0 .0) (w .1))
+    (known-flawed (g .columns) (g .steps) (g .count) (g .needs .now) (g .lands .now) (g .goals .now) (g .costs .now) (g .sets .now) (g .dist .now) _ _ (l .i) (l .a) (l .here) (l .path) (l .inv) _)
+    (h .ensures .1 .1) (l .inv .long)
 
 add-i : tie.Need-add-i Inv-loop μ-loop
 add-i c = search needs
@@ -63,11 +68,16 @@ loop-less c = search needs
 
 loop-again : tie.Need-loop-again Inv-loop μ-loop
 loop-again c =
-    let g = c .before .before .before .before .before .before .before .before .before .before .args in
-    let l = c .before .before .before .before .before .before .loop in
+    let loop-test-at = c .before .before .before .before .before in
+    let loop-at = loop-test-at .before in
+    let entry = loop-at .before .before .before .before in
+    let g = entry .args in
+    let l = loop-at .loop in
     let h = c .before .before .before .hop in
     let w = c .before .turn .given in
-    going-more (g .columns) (g .steps) (g .count) (g .needs .now) (g .lands .now) (g .goals .now) (g .costs .now) (g .sets .now) (g .dist .now) _ _ (l .i) (l .a) (l .here) (l .path) (l .inv) (h .result) _ (h .ensures .0) (h .ensures .1 .0) (c .before .before .before .before .before .loop-test .taken) (w .0 .0) (w .0 .1 .0) (w .1) (h .ensures .1 .1) (search needs)
+    going-more (g .columns) (g .steps) (g .count) (g .needs .now) (g .lands .now) (g .goals .now) (g .costs .now) (g .sets .now) (g .dist .now) _ _ (l .i)
+    (l .a) (l .here) (l .path) (l .inv) (h .result) _ (h .ensures .0) (h .ensures .1 .0) (loop-test-at .loop-test .taken) (w .0 .0) (w .0 .1 .0) (w .1)
+    (h .ensures .1 .1) (search needs)
 
 end-requires : tie.Need-end-requires Inv-loop μ-loop
 end-requires c κs = let m = c .before .before .loop .inv .made in search (m, needs)

@@ -51,11 +51,17 @@ need-cut-requires c κs =
 returns-2 : tie.Need-returns-2
 unfolding standsAfter
 returns-2 c =
-    let g = c .before .before .before .before .before .before .before .before .before .before .args in
-    let n = c .before .before .before .before .before .before .before .before .next-hop in
-    let w = c .before .before .before .before .before .before .next .given in
-    let can = sym (c .before .before .before .can-take .ensures) ∙ not-true _ (c .before .before .if1 .taken) in
-    (ap {B = Turn} Flawed (c .need-cut .ensures) ∙ turn-need (g .columns) (g .steps) (g .count) (g .needs .now) (g .lands .now) (g .costs .now) (g .sets .now) (g .dist .now) (g .a) (g .here .now) _ (n .ensures .0) (w .0 .0) (w .0 .1 .0) (w .1) can, (refl, c .before .before .before .before .before .before .before .before .before .before .pre .5))
+    let next-at = c .before .before .before .before .before .before in
+    let next-hop-at = next-at .before .before in
+    let entry = next-hop-at .before .before in
+    let g = entry .args in
+    let n = next-hop-at .next-hop in
+    let w = next-at .next .given in
+    let can = sym (c .before .before .before .can-take .ensures) ∙ not-true _ (c .before .before .if1 .taken) in (
+      ap {B = Turn} Flawed (c .need-cut .ensures) ∙ turn-need (g .columns) (g .steps) (g .count) (g .needs .now) (g .lands .now) (g .costs .now)
+          (g .sets .now) (g .dist .now) (g .a) (g .here .now) _ (n .ensures .0) (w .0 .0) (w .0 .1 .0) (w .1) can,
+      (refl, entry .pre .5),
+    )
 
 lands-in-requires : tie.Need-lands-in-requires
 lands-in-requires c κs =
@@ -67,39 +73,61 @@ lands-in-requires c κs =
 
 back-cut-requires : tie.Need-back-cut-requires
 back-cut-requires c κs =
-    let g = c .before .before .before .before .before .before .before .before .before .before .before .before .args in
-    let n = c .before .before .before .before .before .before .before .before .before .before .next-hop in
-    let w = c .before .before .before .before .before .before .before .before .next .given in
+    let next-at = c .before .before .before .before .before .before .before .before in
+    let next-hop-at = next-at .before .before in
+    let entry = next-hop-at .before .before in
+    let g = entry .args in
+    let n = next-hop-at .next-hop in
+    let w = next-at .next .given in
     let h = hop-below (g .columns) (g .steps) (g .count) (g .needs .now) (g .lands .now) (g .costs .now) (g .sets .now) (g .dist .now) (g .a) (g .here .now) _ (n .ensures .0) (w .0 .0) (w .0 .1 .0) (w .1) in
     search (h, needs)
 
 returns-3 : tie.Need-returns-3
 unfolding standsAfter
 returns-3 c =
-    let g = c .before .before .before .before .before .before .before .before .before .before .before .before .before .args in
-    let n = c .before .before .before .before .before .before .before .before .before .before .before .next-hop in
-    let w = c .before .before .before .before .before .before .before .before .before .next .given in
-    let can = sym (c .before .before .before .before .before .before .can-take .ensures) ∙ not-false _ (c .before .before .before .before .before .if1 .left) in
-    let lands = sym (c .before .before .before .lands-in .ensures) ∙ not-true _ (c .before .before .if2 .taken) in
-    (ap {B = Turn} Flawed (c .back-cut .ensures) ∙ turn-back (g .columns) (g .steps) (g .count) (g .needs .now) (g .lands .now) (g .costs .now) (g .sets .now) (g .dist .now) (g .a) (g .here .now) _ (n .ensures .0) (w .0 .0) (w .0 .1 .0) (w .1) can lands, (refl, c .before .before .before .before .before .before .before .before .before .before .before .before .before .pre .5))
+    let if1-at = c .before .before .before .before .before in
+    let can-take-at = if1-at .before in
+    let next-at = can-take-at .before .before .before in
+    let next-hop-at = next-at .before .before in
+    let entry = next-hop-at .before .before in
+    let g = entry .args in
+    let n = next-hop-at .next-hop in
+    let w = next-at .next .given in
+    let can = sym (can-take-at .can-take .ensures) ∙ not-false _ (if1-at .if1 .left) in
+    let lands = sym (c .before .before .before .lands-in .ensures) ∙ not-true _ (c .before .before .if2 .taken) in (
+      ap {B = Turn} Flawed (c .back-cut .ensures) ∙ turn-back (g .columns) (g .steps) (g .count) (g .needs .now) (g .lands .now) (g .costs .now)
+          (g .sets .now) (g .dist .now) (g .a) (g .here .now) _ (n .ensures .0) (w .0 .0) (w .0 .1 .0) (w .1) can lands,
+      (refl, entry .pre .5),
+    )
 
 take-requires : tie.Need-take-requires
 take-requires c κs =
-    let g = c .before .before .before .before .before .before .before .before .before .before .before .before .args in
-    let n = c .before .before .before .before .before .before .before .before .before .before .next-hop in
-    let w = c .before .before .before .before .before .before .before .before .next .given in
+    let next-at = c .before .before .before .before .before .before .before .before in
+    let next-hop-at = next-at .before .before in
+    let entry = next-hop-at .before .before in
+    let g = entry .args in
+    let n = next-hop-at .next-hop in
+    let w = next-at .next .given in
     let h = hop-below (g .columns) (g .steps) (g .count) (g .needs .now) (g .lands .now) (g .costs .now) (g .sets .now) (g .dist .now) (g .a) (g .here .now) _ (n .ensures .0) (w .0 .0) (w .0 .1 .0) (w .1) in
     search (h, needs)
 
 returns-4 : tie.Need-returns-4
 unfolding standsAfter
 returns-4 c =
-    let g = c .before .before .before .before .before .before .before .before .before .before .before .before .before .args in
-    let n = c .before .before .before .before .before .before .before .before .before .before .before .next-hop in
-    let w = c .before .before .before .before .before .before .before .before .before .next .given in
-    let can = sym (c .before .before .before .before .before .before .can-take .ensures) ∙ not-false _ (c .before .before .before .before .before .if1 .left) in
-    let lands = sym (c .before .before .before .lands-in .ensures) ∙ not-false _ (c .before .before .if2 .left) in
-    (turn-went (g .columns) (g .steps) (g .count) (g .needs .now) (g .lands .now) (g .costs .now) (g .sets .now) (g .dist .now) (g .a) (g .here .now) _ (n .ensures .0) (w .0 .0) (w .0 .1 .0) (w .1) can lands, c .take .ensures)
+    let if1-at = c .before .before .before .before .before in
+    let can-take-at = if1-at .before in
+    let next-at = can-take-at .before .before .before in
+    let next-hop-at = next-at .before .before in
+    let entry = next-hop-at .before .before in
+    let g = entry .args in
+    let n = next-hop-at .next-hop in
+    let w = next-at .next .given in
+    let can = sym (can-take-at .can-take .ensures) ∙ not-false _ (if1-at .if1 .left) in
+    let lands = sym (c .before .before .before .lands-in .ensures) ∙ not-false _ (c .before .before .if2 .left) in (
+      turn-went (g .columns) (g .steps) (g .count) (g .needs .now) (g .lands .now) (g .costs .now) (g .sets .now) (g .dist .now) (g .a) (g .here .now) _
+          (n .ensures .0) (w .0 .0) (w .0 .1 .0) (w .1) can lands,
+      c .take .ensures,
+    )
 
 pub hop-spec : {M : Type 1} → statement M
 hop-spec =
