@@ -29,54 +29,31 @@ fill-goals-requires : tie.Need-fill-goals-requires
 fill-goals-requires c κs = search needs
 
 fill-first-requires : tie.Need-fill-first-requires
-fill-first-requires c κs =
-    let back = c .before .before .before .before .before .before .before .before in
-    let entry = back .before .before in
-    (entry .pre .0, search needs)
+fill-first-requires c κs = (c .before .before .before .before .before .before .before .before .before .before .pre .0, search needs)
 
 slice-aggregate-cut-on : tie.Need-slice-aggregate-cut-on
 slice-aggregate-cut-on c = search needs
 
 cut-on-requires : tie.Need-cut-on-requires
-cut-on-requires c κs =
-    let fill-first-at = c .before .before .before .before .before .before .before .before in
-    let fill-goals-at = fill-first-at .before .before in
-    let fill-lands-at = fill-goals-at .before .before in
-    let fill-needs-at = fill-lands-at .before .before in
-    let entry = fill-needs-at .before .before .before .before .before in
-    let m = entry .args .model in
-    let p = entry .pre in
+cut-on-requires c κs = let m = c .before .before .before .before .before .before .before .before .before .before .before .before .before .before .before .before .before .before .before .args .model in
+    let p = c .before .before .before .before .before .before .before .before .before .before .before .before .before .before .before .before .before .before .before .pre in
     let v = p .0 in
-    let o = entry .good in
+    let o = c .before .before .before .before .before .before .before .before .before .before .before .before .before .before .before .before .before .before .before .good in
     let k : length (m .cost) ≡ 128 = search (needs, o) in
     let l : length (m .start) ≡ 16 = search (length-mapped, needs, o) in
     let z : length {A = ℕ} (replicate blockPlaces 0) ≡ blockPlaces = refl in
-    let f = fill-first-at .fill-first .ensures in (
-      (p .1, p .2, omega (arith, k, v .steps, steps-of m), first-fills m (replicate blockPlaces 0) f (v .columns .1) z, search needs, p .3),
-      record
-          { task = taskOf m; given = model-given m v l (fill-needs-at .fill-needs .ensures) (fill-lands-at .fill-lands .ensures) (fill-goals-at .fill-goals .ensures); stand = first-stands m v _ (replicate blockPlaces 0) f },
-    )
+    let f = c .before .before .before .before .before .before .before .before .fill-first .ensures in
+    ((p .1, p .2, omega (arith, k, v .steps, steps-of m), first-fills m (replicate blockPlaces 0) f (v .columns .1) z, search needs, p .3), record { task = taskOf m; given = model-given m v l (c .before .before .before .before .before .before .before .before .before .before .before .before .before .before .fill-needs .ensures) (c .before .before .before .before .before .before .before .before .before .before .before .before .fill-lands .ensures) (c .before .before .before .before .before .before .before .before .before .before .fill-goals .ensures); stand = first-stands m v _ (replicate blockPlaces 0) f })
 
 same-length : tie.Need-same-length
 same-length c = search needs
 
 returns : tie.Need-returns
-returns c =
-    let back = c .before .before .before .before .before .before .before .before in
-    let fill-first-at = back .before .before .before in
-    let fill-goals-at = fill-first-at .before .before in
-    let fill-lands-at = fill-goals-at .before .before in
-    let fill-needs-at = fill-lands-at .before .before in
-    let entry = fill-needs-at .before .before .before .before .before in
-    let m = entry .args .model in
-    let v = entry .pre .0 in
-    let o = entry .good in
-    let l : length (m .start) ≡ 16 = search (length-mapped, needs, o) in (
-      c .before .before .cut-on .ensures .0 (taskOf m)
-          (model-given m v l (fill-needs-at .fill-needs .ensures) (fill-lands-at .fill-lands .ensures) (fill-goals-at .fill-goals .ensures))
-          (first-stands m v _ (replicate blockPlaces 0) (fill-first-at .fill-first .ensures)),
-      c .before .before .cut-on .ensures .1,
-    )
+returns c = let m = c .before .before .before .before .before .before .before .before .before .before .before .before .before .before .before .before .before .before .before .before .before .before .args .model in
+    let v = c .before .before .before .before .before .before .before .before .before .before .before .before .before .before .before .before .before .before .before .before .before .before .pre .0 in
+    let o = c .before .before .before .before .before .before .before .before .before .before .before .before .before .before .before .before .before .before .before .before .before .before .good in
+    let l : length (m .start) ≡ 16 = search (length-mapped, needs, o) in
+    (c .before .before .cut-on .ensures .0 (taskOf m) (model-given m v l (c .before .before .before .before .before .before .before .before .before .before .before .before .before .before .before .before .before .fill-needs .ensures) (c .before .before .before .before .before .before .before .before .before .before .before .before .before .before .before .fill-lands .ensures) (c .before .before .before .before .before .before .before .before .before .before .before .before .before .fill-goals .ensures)) (first-stands m v _ (replicate blockPlaces 0) (c .before .before .before .before .before .before .before .before .before .before .before .fill-first .ensures)), c .before .before .cut-on .ensures .1)
 
 pub refine-spec : {M : Type 1} → statement M
 refine-spec =

@@ -31,34 +31,24 @@ fill-goals-requires c κs = search needs
 
 -- src/lib.rt:108:5
 stand-requires : tie.Need-stand-requires
-stand-requires c κs =
-    let unpack-model-at = c .before .before .before .before .before .before .before .before .before in
-    let entry = unpack-model-at .before .before in
-    let g = entry .args in
-    let p = entry .pre in
-    let e = unpack-model-at .unpack-model .ensures in
-    let m = unpack-model-at .unpack-model .result .model in
+stand-requires c κs = let g = c .before .before .before .before .before .before .before .before .before .before .before .args in
+    let p = c .before .before .before .before .before .before .before .before .before .before .before .pre in
+    let e = c .before .before .before .before .before .before .before .before .before .unpack-model .ensures in
+    let m = c .before .before .before .before .before .before .before .before .before .unpack-model .result .model in
     let l : length (m .start) ≡ 16 = search (length-mapped, needs) in
     let k : length (m .cost) ≡ 128 = search needs in
     (narrow (g .model .now) (p .0) e l k, p .1 .1 .1, small (g .model .now) (p .0) e l k)
 
 -- src/lib.rt:90:1
 returns : tie.Need-returns
-returns c =
-    let fill-goals-at = c .before .before .before .before in
-    let fill-lands-at = fill-goals-at .before .before in
-    let fill-needs-at = fill-lands-at .before .before in
-    let unpack-model-at = fill-needs-at .before .before .before in
-    let entry = unpack-model-at .before .before in
-    let g = entry .args in
-    let p = entry .pre in
-    let e = unpack-model-at .unpack-model .ensures in
-    let m = unpack-model-at .unpack-model .result .model in
+returns c = let g = c .before .before .before .before .before .before .before .before .before .before .before .before .before .args in
+    let p = c .before .before .before .before .before .before .before .before .before .before .before .before .before .pre in
+    let e = c .before .before .before .before .before .before .before .before .before .before .before .unpack-model .ensures in
+    let m = c .before .before .before .before .before .before .before .before .before .before .before .unpack-model .result .model in
     let l : length (m .start) ≡ 16 = search (length-mapped, needs) in
-    let o = unpack-model-at .unpack-model .ok in
+    let o = c .before .before .before .before .before .before .before .before .before .before .before .unpack-model .ok in
     let k : length (m .cost) ≡ 128 = search (needs, o) in
-    tabled (g .model .now) (p .0) e l k (g .here .now) (p .1 .1 .1) (fill-needs-at .fill-needs .ensures) (fill-lands-at .fill-lands .ensures)
-    (fill-goals-at .fill-goals .ensures) (c .before .stand .ensures)
+    tabled (g .model .now) (p .0) e l k (g .here .now) (p .1 .1 .1) (c .before .before .before .before .before .before .before .before .fill-needs .ensures) (c .before .before .before .before .before .before .fill-lands .ensures) (c .before .before .before .before .fill-goals .ensures) (c .before .stand .ensures)
 
 pub fill-tables-spec : {M : Type 1} → statement M
 fill-tables-spec =
