@@ -28,23 +28,15 @@ slice-aggregate-fill-distances c = search needs
 
 fill-distances-requires : tie.Need-fill-distances-requires
 fill-distances-requires c κs =
-    let back = c .before .before .before .before .before .before .before .before in
-    let entry = back .before .before .before .before in
-    let p = entry .pre in
-    let m = entry .args .model in
+    let p = c .before .before .before .before .before .before .before .before .before .before .before .before .pre in
+    let m = c .before .before .before .before .before .before .before .before .before .before .before .before .args .model in
     let v = p .0 in
     let l : length (m .cost) ≡ 128 = search needs in
     (omega (arith, v .columns .1, columns-of m), omega (arith, v .steps, steps-of m), omega (arith, l, v .steps, steps-of m), p .1, p .2)
 
 returns : tie.Need-returns
-returns c =
-    let fill-goals-at = c .before .before .before .before .before .before in
-    let fill-lands-at = fill-goals-at .before .before in
-    let fill-needs-at = fill-lands-at .before .before in
-    let entry = fill-needs-at .before .before .before in
-    let m = entry .args .model in
-    c .fill-distances .ensures .0 (taskOf m)
-    (rw (fill-needs-at .fill-needs .ensures, fill-lands-at .fill-lands .ensures, fill-goals-at .fill-goals .ensures) (model-tables m (entry .pre .0)))
+returns c = let m = c .before .before .before .before .before .before .before .before .before .before .before .before .before .args .model in
+    c .fill-distances .ensures .0 (taskOf m) (rw (c .before .before .before .before .before .before .before .before .before .before .fill-needs .ensures, c .before .before .before .before .before .before .before .before .fill-lands .ensures, c .before .before .before .before .before .before .fill-goals .ensures) (model-tables m (c .before .before .before .before .before .before .before .before .before .before .before .before .before .pre .0)))
 
 pub measure-spec : {M : Type 1} → statement M
 measure-spec =
