@@ -9,16 +9,16 @@ use mathlib.Core.List.{List, [], _∷_}
 use lib.Dec.{ltb}
 use lib.ListN.{length, take, drop, length-drop}
 use lib.Seq.{length-take-le, take-all, take-add, drop-at}
-use borrow.Author.Tests.{le-ltb}
+use borrow.Author.Tests.{le-ltb, lt-ltb}
 use Rattle.task.specs.Sizes.{limits}
 use Rattle.fields.specs.Bits.{fieldAt}
 use Rattle.fields.specs.Judging.{Field, Entry, onSheet, judged, refusal}
 use Rattle.fields.specs.Packing.{bytesFor}
-use Rattle.fields.proofs.JudgingLaws.{stop, passes, refusal-append, refused-is, sheet-here}
+use Rattle.fields.proofs.JudgingLaws.{stop, passes, refusal-append, refused-is, sheet-here, applies}
 use Rattle.fields.proofs.PartLaws.{field-take}
 use Rattle.sheets.specs.ModelSheet.{headerPart, fieldsPart, entries, modelBits, columnsOf, stepsOf, columnOn, costOn, marksOn, sheetWith, ofSheet}
-use Rattle.sheets.specs.ModelSheet.{sheetChecks, judgePart, judgeSheet}
-use Rattle.sheets.proofs.SheetLaws.{bits-le, header-fine, part-header, part-done, part-fine, sheet-stopped, sheet-follows}
+use Rattle.sheets.specs.ModelSheet.{modelEnd, sheetChecks, judgePart, judgeSheet}
+use Rattle.sheets.proofs.SheetLaws.{bits-le, header-fine, part-header, part-done, part-fine, sheet-stopped, sheet-end}
 use Rattle.fields.proofs.PlaceLaws.{same-field}
 use Rattle.sheets.proofs.RoundLaws.{Same, same-fields, bits-next}
 use Rattle.sheet_laws.proofs.Largest.{largest}
@@ -33,7 +33,8 @@ follows : (s : List ℕ) → judgePart s ≡ 0 → 3365 < length s → 6 ≡ jud
 unfolding bytesFor
 follows s z l =
     let h = part-fine s z in
-    sheet-follows s refl z (omega (arith, bits-le (columnsOf s) (stepsOf s) (h .columns) (h .steps)))
+    sheet-end s refl z refl
+    (applies 6 (ltb (modelEnd s) (length s)) [] (lt-ltb (modelEnd s) (length s) (omega (arith, bits-le (columnsOf s) (stepsOf s) (h .columns) (h .steps)))) (λ q. omega arith))
 
 -- ---- a sheet's first b bytes, more than the largest sheet has
 module _ (b : ℕ) (large : 3365 < b) (s : List ℕ) (long : b ≤ length s) where
