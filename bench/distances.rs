@@ -10,14 +10,21 @@ mod plain;
 
 use clock::on_cpu;
 use models::Random;
-use plain::{Sets, Unwatched, Wants, NO_WAY};
+use plain::{Sets, Unwatched, NO_WAY};
+
+// As in the library: rows of needs, of landings, the goal, the start.
+type Tables = [u32; (2 * 128 + 2) * 16];
+
+#[repr(C)]
+#[derive(Clone, Copy)]
+struct Shape {
+    columns: usize,
+    steps: usize,
+}
 
 #[allow(improper_ctypes)]
 extern "C" {
-    fn fill_distances(
-        columns: usize, steps: usize, count: usize, needs: &Wants, lands: &Wants, goals: &[u32; 16], costs: &[u16],
-        sets: &Sets, dist: &mut [u64; 256],
-    );
+    fn fill_distances(shape: Shape, count: usize, tables: &Tables, costs: &[u16; 128], sets: &Sets, dist: &mut [u64; 256]);
 }
 
 struct Case {
@@ -75,13 +82,20 @@ fn run(c: &Case, reps: usize) {
     for j in 0..16 {
         goals[j] = bit(c.goal[j]);
     }
+    let mut tables = [0u32; (2 * 128 + 2) * 16];
+    tables[..2048].copy_from_slice(&needs);
+    tables[2048..4096].copy_from_slice(&lands);
+    tables[4096..4112].copy_from_slice(&goals);
+    let mut costs = [0u16; 128];
+    costs[..c.steps].copy_from_slice(&c.costs[..c.steps]);
+    let shape = Shape { columns: c.columns, steps: c.steps };
     let mut sets = [0u32; 4096];
     sets[..c.sets.len()].copy_from_slice(&c.sets);
     let (mut ours, mut theirs) = (f64::MAX, f64::MAX);
     let (mut d1, mut d2) = ([7u64; 256], [7u64; 256]);
     for _ in 0..reps {
         let t = on_cpu();
-        unsafe { fill_distances(c.columns, c.steps, c.count, &needs, &lands, &goals, &c.costs, &sets, &mut d1) };
+        unsafe { fill_distances(shape, c.count, &tables, &costs, &sets, &mut d1) };
         ours = ours.min(on_cpu() - t);
         let t = on_cpu();
         plain::fill_distances(c.columns, c.steps, c.count, &needs, &lands, &goals, &c.costs, &sets, &mut d2, &mut Unwatched);
@@ -98,7 +112,7 @@ fn run(c: &Case, reps: usize) {
         for _ in 0..3 {
             let t = on_cpu();
             for count in 1..=256 {
-                unsafe { fill_distances(c.columns, c.steps, count, &needs, &lands, &goals, &c.costs, &sets, &mut d1) };
+                unsafe { fill_distances(shape, count, &tables, &costs, &sets, &mut d1) };
             }
             all = all.min(on_cpu() - t);
             let t = on_cpu();

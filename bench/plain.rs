@@ -236,14 +236,11 @@ fn marks(s: &[u8], n: usize, m: usize, skip: usize) -> [u8; STEPS * COLUMNS] {
     t
 }
 
-pub fn unpack_model(s: &[u8]) -> Result<Model, u8> {
-    let code = judge_sheet(s);
-    if code != 0 {
-        return Err(code);
-    }
+// The model of an accepted sheet.
+fn unpack_accepted(s: &[u8]) -> Model {
     let n = field(s, 4, 5) as usize;
     let m = field(s, 9, 8) as usize;
-    Ok(Model {
+    Model {
         columns: n,
         steps: m,
         size: frame(s, n, 0, 6),
@@ -252,7 +249,15 @@ pub fn unpack_model(s: &[u8]) -> Result<Model, u8> {
         cost: costs(s, n, m),
         need: marks(s, n, m, 0),
         effect: marks(s, n, m, 6),
-    })
+    }
+}
+
+pub fn unpack_model(s: &[u8]) -> Result<Model, u8> {
+    let code = judge_sheet(s);
+    if code != 0 {
+        return Err(code);
+    }
+    Ok(unpack_accepted(s))
 }
 
 // ---- blocks
@@ -739,7 +744,7 @@ pub fn question<W: Watch>(model: &[u8], sheet: &[u8], states: &[u8], estimates: 
     if r != 0 {
         return Err(r);
     }
-    let given = unpack_model(model)?;
+    let given = unpack_accepted(model);
     let bad = judge_states(&given.size, given.columns, states);
     if bad != 0 {
         return Err(bad);
@@ -907,10 +912,10 @@ pub fn run<W: Watch>(sheet: &[u8], room: u32, cuts: &mut [u32], rows: &mut [u32]
     let mut dist = [0; BLOCKS];
     let mut list = [0; BLOCKS - 1];
     let mut count = 1;
+    let mut a = 0;
     loop {
         fill_distances(columns, steps, count, &needs, &lands, &goals, &model.cost, &sets, &mut dist, watch);
         watch.enter(Part::Walk);
-        let a = block_of(count - 1, cuts, &model.start);
         if NO_WAY <= dist[a] {
             return Answer::NoPlan { blocks: count };
         }
@@ -927,6 +932,10 @@ pub fn run<W: Watch>(sheet: &[u8], room: u32, cuts: &mut [u32], rows: &mut [u32]
                 cuts[count * 3 - 2] = cut.column as u32;
                 cuts[count * 3 - 1] = cut.wanted;
                 make_cut(columns, count, cut, &mut sets);
+                // only a cut of the start's own block can take it to the new one
+                if cut.block as usize == a && start[cut.column as usize] & cut.wanted != 0 {
+                    a = count;
+                }
                 count += 1;
             }
         }
@@ -1021,13 +1030,13 @@ struct Frame {
     costs: [u16; STEPS],
 }
 
-fn fill_tables(model: &[u8], needs: &mut Wants, lands: &mut Wants, goals: &mut Masks, here: &mut Masks) -> Result<Frame, u8> {
-    let given = unpack_model(model)?;
+fn fill_tables(model: &[u8], needs: &mut Wants, lands: &mut Wants, goals: &mut Masks, here: &mut Masks) -> Frame {
+    let given = unpack_accepted(model);
     fill_needs(&given, needs);
     fill_lands(&given, lands);
     fill_goals(&given, goals);
     stand(given.columns, &given.start, here);
-    Ok(Frame { columns: given.columns, steps: given.steps, costs: given.cost })
+    Frame { columns: given.columns, steps: given.steps, costs: given.cost }
 }
 
 fn replay_on<W: Watch>(model: &[u8], part: &[u8], sets: &Sets, log: &[u32], rows: &mut [i32], watch: &mut W) -> Replayed {
@@ -1035,10 +1044,7 @@ fn replay_on<W: Watch>(model: &[u8], part: &[u8], sets: &Sets, log: &[u32], rows
     let mut lands = [0; STEPS * COLUMNS];
     let mut goals = [0; COLUMNS];
     let mut here = [0; COLUMNS];
-    let Frame { columns, steps, costs } = match fill_tables(model, &mut needs, &mut lands, &mut goals, &mut here) {
-        Ok(frame) => frame,
-        Err(code) => return Replayed::Refused(code),
-    };
+    let Frame { columns, steps, costs } = fill_tables(model, &mut needs, &mut lands, &mut goals, &mut here);
     let bad = judge_log(columns, steps, &needs, &lands, log, &here);
     if bad != 0 {
         return Replayed::Stopped(bad);

@@ -2,11 +2,11 @@
 use mathlib.Core.Bool.{Bool, not, _&&_, cond}
 use mathlib.Core.List.{List}
 use mathlib.Core.Option.{Option, Option·getD}
-use Prim.Native.Nat.{ℕ, zero, suc, _+_, _*_, _/_, _≤_, _<_}
+use Prim.Native.Nat.{ℕ, zero, suc, _+_, _*_, _/_}
 use lib.Dec.{eqb, ltb}
 use lib.ListN.{length, getD}
 use Rattle.task.specs.Loops.{first, when}
-use Rattle.task.specs.Sizes.{limits, tenth}
+use Rattle.task.specs.Sizes.{tenth}
 use Rattle.blocks.specs.Blocks.{PositionSet, common, isEmpty}
 use Rattle.standing.specs.Standing.{takesBy, takenBy}
 
@@ -47,10 +47,3 @@ costBy count cuts dist here = getD dist (blockBy cuts here count) 0 / tenth
 -- the same after the first i steps of a log
 unfoldable pub costAfter : ℕ → List ℕ → ℕ → List ℕ → List ℕ → List ℕ → List PositionSet → ℕ → ℕ
 costAfter columns lands count cuts dist log here i = costBy count cuts dist (hereAfter columns lands log here i)
-
--- the cuts stand in a list and name columns that are there, and a table has a cost for each of their blocks
-pub record Cuts (count : ℕ) (cuts dist : List ℕ) : Type 0 where
-  pub few : count < limits .blocks
-  pub listed : count * 3 ≤ length cuts
-  pub there : (i : ℕ) → i < count → getD cuts (i * 3 + 1) 0 < limits .columns
-  pub costs : (a : ℕ) → a ≤ count → getD dist a 0 / tenth ≤ limits .«no_way»

@@ -11,11 +11,12 @@ use lib.Bits.{bitAnd}
 use lib.ListN.{getD}
 use borrow.Author.Tests.{eqb-true, not-true}
 use Rattle.task.specs.Loops.{all}
-use Rattle.task.specs.Sizes.{limits}
-use Rattle.task.proofs.LoopLaws.{below-suc, true-or-false, and-left, all-at, all-intro, all-false, all-fails}
+use Rattle.task.specs.Sizes.{limits, landsRow}
+use Rattle.task.proofs.LoopLaws.{below-suc, true-or-false, and-left, all-at, all-intro, all-false, all-fails, all-ext}
 use Rattle.blocks.specs.Blocks.{common, isEmpty}
 use Rattle.blocks.specs.Flat.{past, rowOf}
-use Rattle.blocks.specs.Masks.{lies, allLie, passes, leadsBy}
+use Rattle.blocks.specs.Masks.{lies, allLie, passes, landsIn, leadsBy}
+use Rattle.blocks.proofs.MaskLaws.{from-past}
 use Rattle.arcs.specs.Arcs.{fitsIn, keeps, parted, keptMeet}
 use Rattle.arcs.specs.Words.{word, words, wordOf, bitAt, meetsIn, keptPart, keptWord, arcWord, told, toldIn, wideIn, Able, Met, Opened, Narrow}
 use Rattle.arcs.proofs.WordLaws.{word-and, word-same, word-told}
@@ -160,3 +161,14 @@ told-word few narrow lands able meets left s w v i h e =
     let q : (w * word + i) / word ≡ w = omega arith in
     let r : (w * word + i) % word ≡ i = omega arith in
     rw (q, r, e)
+
+-- ---- a landing is a row of the tables
+module _ (tables : List ℕ) (s : ℕ) where
+  pub kept-row : (narrow meets : List ℕ) (w v n : ℕ) → keptWord narrow tables meets (landsRow + s) w v n ≡ keptWord narrow (landsIn tables) meets s w v n
+  unfolding keptWord
+  kept-row narrow meets w v zero = refl
+  kept-row narrow meets w v (suc n) = rw (kept-row narrow meets w v n, from-past landsRow tables s (getD narrow n 0)) refl
+
+  pub fits-row : (columns : ℕ) (sets : List ℕ) (b : ℕ) → fitsIn columns tables sets (landsRow + s) b ≡ fitsIn columns (landsIn tables) sets s b
+  unfolding fitsIn allLie
+  fits-row columns sets b = all-ext columns _ _ (λ j h. ap (λ (x : ℕ). lies x (past sets (rowOf b) j)) (sym (from-past landsRow tables s j)))

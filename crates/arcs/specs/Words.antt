@@ -105,7 +105,8 @@ keptPart v land meet = cond (isEmpty land) (bitAnd v meet) v
 -- the blocks of v, which is word w, that meet the settled block in each of the first narrow columns that step s keeps
 unfoldable pub keptWord : List ℕ → List ℕ → List ℕ → ℕ → ℕ → ℕ → ℕ → ℕ
 keptWord narrow lands meets s w v zero = v
-keptWord narrow lands meets s w v (suc i) = keptPart (keptWord narrow lands meets s w v i) (past lands (rowOf s) (getD narrow i 0)) (getD meets (getD narrow i 0 * words + w) 0)
+keptWord narrow lands meets s w v (suc i) =
+    keptPart (keptWord narrow lands meets s w v i) (past lands (rowOf s) (getD narrow i 0)) (getD meets (getD narrow i 0 * words + w) 0)
 
 unfoldable pub arcWord : ℕ → List ℕ → List ℕ → List ℕ → List ℕ → List ℕ → ℕ → ℕ → ℕ
 arcWord few narrow lands able meets left s w = keptWord narrow lands meets s w (bitAnd (getD able (w * limits .steps + s) 0) (getD left w 0)) few

@@ -4,7 +4,7 @@ ghost use mathlib.Core.Bool.{cond};
 ghost use Prim.Native.Nat.{_*_, _^_, _<_, _≤_};
 ghost use lib.Bits.{bitAnd};
 ghost use lib.ListN.{length};
-ghost use Rattle.task.specs.Sizes.{limits};
+ghost use Rattle.task.specs.Sizes.{limits, goalRow};
 ghost use Rattle.blocks.specs.Flat.{past, rowOf};
 ghost use Rattle.arcs.specs.Arcs.{fitsIn};
 ghost use Rattle.arcs.specs.Words.{word, words, wordOf, bitAt, needIn, meetsIn, heldIn, openIn, RowAble, Able, RowMet, Met, Opened, wideIn, Listed};
@@ -12,7 +12,7 @@ ghost use Rattle.arcs.specs.Words.{Narrow, keptPart, keptWord};
 use task::BlockSets;
 use task::ColumnSets;
 use task::Model;
-use task::StepSets;
+use task::Tables;
 
 // Sets of blocks stand in words of 32 bits, a bit for each block.
 pub const WORD: usize = 32;
@@ -27,14 +27,14 @@ fn bit_if(t: bool, i: usize) -> u32
     if t { 1 << i } else { 0 }
 }
 
-// Whether what step s wants lies in block a.
-pub fn fits_in(columns: usize, s: usize, a: usize, wants: &StepSets, sets: &BlockSets) -> bool
-    requires { ⌜ (columns ≤ limits .columns) × (s < limits .steps) × (a < limits .blocks) ⌝ }
-    ensures { λ r. ⌜ r ≡ fitsIn columns (now (wants .entry)) (now (sets .entry)) s a ⌝ }
+// Whether a row of the tables lies in block a.
+pub fn fits_in(columns: usize, row: usize, a: usize, tables: &Tables, sets: &BlockSets) -> bool
+    requires { ⌜ (columns ≤ limits .columns) × (row < goalRow) × (a < limits .blocks) ⌝ }
+    ensures { λ r. ⌜ r ≡ fitsIn columns (now (tables .entry)) (now (sets .entry)) row a ⌝ }
 {
-    let rs = s * Model::COLUMNS;
+    let rs = row * Model::COLUMNS;
     let ra = a * Model::COLUMNS;
-    masks::all_lie(columns, rs, ra, wants, sets)
+    masks::all_lie(columns, rs, ra, tables, sets)
 }
 
 // The blocks of word w that hold a need in column j, as a mask.
@@ -67,15 +67,15 @@ fn with_need(v: u32, w: usize, j: usize, need: u32, sets: &BlockSets) -> u32
 }
 
 // The blocks of word w from which step s can be taken, as a mask.
-fn able_word(columns: usize, s: usize, w: usize, needs: &StepSets, sets: &BlockSets) -> u32
+fn able_word(columns: usize, s: usize, w: usize, tables: &Tables, sets: &BlockSets) -> u32
     requires { ⌜ (columns ≤ limits .columns) × (s < limits .steps) × (w < words) ⌝ }
-    ensures { λ r. ⌜ r ≡ wordOf (fitsIn columns (now (needs .entry)) (now (sets .entry)) s) w ⌝ }
+    ensures { λ r. ⌜ r ≡ wordOf (fitsIn columns (now (tables .entry)) (now (sets .entry)) s) w ⌝ }
 {
     let rs = s * Model::COLUMNS;
     let mut v: u32 = 4294967295;
     let mut j: usize = 0;
     while j < columns {
-        v = with_need(v, w, j, needs[rs + j], sets);
+        v = with_need(v, w, j, tables[rs + j], sets);
         j += 1;
     }
     v
@@ -86,18 +86,18 @@ fn fill_row(
     columns: usize,
     steps: usize,
     w: usize,
-    needs: &StepSets,
+    tables: &Tables,
     sets: &BlockSets,
     able: &mut [u32; WORDS * Model::STEPS],
 )
     requires { ⌜ (columns ≤ limits .columns) × (steps ≤ limits .steps) × (w < words) × (length (now able) ≡ words * limits .steps) ⌝ }
-    ensures { λ _. ⌜ RowAble columns steps (now (needs .entry)) (now (sets .entry)) w (now (able .entry)) (now (able .exit)) ⌝
+    ensures { λ _. ⌜ RowAble columns steps (now (tables .entry)) (now (sets .entry)) w (now (able .entry)) (now (able .exit)) ⌝
         ∗ ⌜ length (now (able .exit)) ≡ words * limits .steps ⌝ }
 {
     let row = w * Model::STEPS;
     let mut s: usize = 0;
     while s < steps {
-        able[row + s] = able_word(columns, s, w, needs, sets);
+        able[row + s] = able_word(columns, s, w, tables, sets);
         s += 1;
     }
 }
@@ -107,16 +107,16 @@ pub fn fill_able(
     columns: usize,
     steps: usize,
     used: usize,
-    needs: &StepSets,
+    tables: &Tables,
     sets: &BlockSets,
     able: &mut [u32; WORDS * Model::STEPS],
 )
     requires { ⌜ (columns ≤ limits .columns) × (steps ≤ limits .steps) × (used ≤ words) × (length (now able) ≡ words * limits .steps) ⌝ }
-    ensures { λ _. ⌜ Able columns steps (now (needs .entry)) (now (sets .entry)) used (now (able .exit)) ⌝ }
+    ensures { λ _. ⌜ Able columns steps (now (tables .entry)) (now (sets .entry)) used (now (able .exit)) ⌝ }
 {
     let mut w: usize = 0;
     while w < used {
-        fill_row(columns, steps, w, needs, sets, able);
+        fill_row(columns, steps, w, tables, sets, able);
         w += 1;
     }
 }
@@ -290,20 +290,20 @@ fn kept_part(v: u32, land: u32, meet: u32) -> u32
     v
 }
 
-// The blocks of a mask that meet the settled block in every narrow column that step s keeps.
+// The blocks of a mask that meet the settled block in every narrow column that a step keeps, whose landing is that row of the tables.
 pub fn kept_word(
     few: usize,
-    s: usize,
+    row: usize,
     w: usize,
     first: u32,
     narrow: &[usize; Model::COLUMNS],
-    lands: &StepSets,
+    tables: &Tables,
     meets: &[u32; Model::COLUMNS * WORDS],
 ) -> u32
-    requires { ⌜ (few ≤ limits .columns) × (s < limits .steps) × (w < words) ⌝ ∗ ⌜ Listed few (now narrow) ⌝ }
-    ensures { λ r. ⌜ r ≡ keptWord (now (narrow .entry)) (now (lands .entry)) (now (meets .entry)) s w first few ⌝ }
+    requires { ⌜ (few ≤ limits .columns) × (row < goalRow) × (w < words) ⌝ ∗ ⌜ Listed few (now narrow) ⌝ }
+    ensures { λ r. ⌜ r ≡ keptWord (now (narrow .entry)) (now (tables .entry)) (now (meets .entry)) row w first few ⌝ }
 {
-    let rs = s * Model::COLUMNS;
+    let rs = row * Model::COLUMNS;
     let mut v = first;
     let mut i: usize = 0;
     while i < few {
@@ -311,7 +311,7 @@ pub fn kept_word(
             return 0;
         }
         let j = narrow[i];
-        v = kept_part(v, lands[rs + j], meets[j * WORDS + w]);
+        v = kept_part(v, tables[rs + j], meets[j * WORDS + w]);
         i += 1;
     }
     v

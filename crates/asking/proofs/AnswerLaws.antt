@@ -34,12 +34,12 @@ module _ (t : Task) (bytes : List ℕ) (good : badStates t bytes ≡ false) wher
   Fit : Bool
   Fit = all (length bytes) (λ i. ltb (getD bytes i 0) (sizeOf t (column (i % columnCount t))))
 
-  parts : (ltb 64 (statesIn t bytes) ≡ false) × (Fit ≡ true)
+  parts : (ltb (limits .states) (statesIn t bytes) ≡ false) × (Fit ≡ true)
   unfolding badStates Fit
-  parts = or-both (eqb (length bytes % columnCount t) 0) (ltb 64 (statesIn t bytes)) Fit good
+  parts = or-both (eqb (length bytes % columnCount t) 0) (ltb (limits .states) (statesIn t bytes)) Fit good
 
-  pub few-states : statesIn t bytes ≤ 64
-  few-states = ltb-false 64 (statesIn t bytes) (parts .0)
+  pub few-states : statesIn t bytes ≤ limits .states
+  few-states = ltb-false (limits .states) (statesIn t bytes) (parts .0)
 
   fitting : all (length bytes) (λ i. ltb (getD bytes i 0) (sizeOf t (column (i % columnCount t)))) ≡ true
   unfolding Fit

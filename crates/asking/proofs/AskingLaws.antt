@@ -8,23 +8,21 @@ use lib.Dec.{ltb}
 use lib.ListN.{length, getD}
 use borrow.Author.Tests.{lt-ltb, le-ltb, eq-eqb}
 use Rattle.task.specs.Loops.{over}
-use Rattle.task.specs.Tables.{taskOf}
-use Rattle.task.specs.Task.{Task, Accepted, column, columnCount, sizeOf}
-use Rattle.task.proofs.TableLaws.{columns-of, size-of}
+use Rattle.task.specs.Task.{Task, column, columnCount, sizeOf}
 use Rattle.fields.specs.Judging.{check, refusal}
 use Rattle.fields.proofs.JudgingLaws.{stop, go, applies, passes, no-checks, refusal-append, refused-is}
 use Rattle.sheets.specs.LentTables.{tooFew}
 use Rattle.sheets.specs.Holding.{taskOn}
-use Rattle.unpack.specs.declared.Read.{Read}
-use Rattle.unpack.specs.Unpacking.{unpacked}
-use Rattle.cut_sheets.specs.CutPart.{cutsNamed, cutOn, countOf, judgeCuts}
+use Rattle.sheets.specs.ModelSheet.{judgeSheet}
+use Rattle.preparing.specs.declared.Frame.{Frame}
+use Rattle.preparing.specs.Preparing.{Prepared}
+use Rattle.cut_sheets.specs.CutPart.{cutsNamed, cutOn, countOf}
 use Rattle.cut_sheets.specs.CutSheet.{tailOf, cutSheetChecks, cutsOf}
-use Rattle.cut_sheets.specs.Judged.{Made}
 use Rattle.cut_reading.specs.Rebuilding.{SheetJudged}
 use Rattle.cut_reading.proofs.RebuildLaws.{sheets-ok, start-within}
-use Rattle.unpack.proofs.GivenLaws.{read-code, given-task, given-accepted, given-columns}
 use Rattle.asking.specs.declared.Asked.the-variants.{Estimates, Refused}
 use Rattle.asking.specs.Question.{statesIn, badStates, estimatesOf, questionChecks, questionOutcome, asking, Asks}
+use Rattle.asking.specs.Posing.{Posed, Answerable}
 
 -- the answer of the code that judges states
 eleven : (b : Bool) {r : ℕ} → r ≡ cond b 11 0 → (r ≡ 0 → ⊥) → (b ≡ true) × (r ≡ 11)
@@ -55,64 +53,60 @@ module _ (m s states est : List ℕ) where
       pub within : length m ≤ length s
       within = start-within m s [] j z
 
-      module _ {read : Read} (e : read ≡ unpacked m) where
-        code : read .code ≡ 0
-        code = read-code m e ∙ sheets-ok m s [] j z .0
+      pub model-fine : judgeSheet m ≡ 0
+      model-fine = sheets-ok m s [] j z .0
 
-        same : taskOf (read .model) ≡ taskOn m
-        same = given-task m e code
+      module _ {f : Frame} {tables : List ℕ} (p : Prepared (taskOn m) f tables) where
+        abbrev columns : ℕ
+        columns = f .shape .columns
 
-        pub given : Accepted (taskOf (read .model))
-        given = given-accepted m e code
+        wide : columnCount (taskOn m) ≡ f .shape .columns
+        wide = p .tabled .own .wide
 
-        pub wide : (1 ≤ read .model .columns) × (read .model .columns ≤ 16)
-        wide = let v = given .columns in (omega (arith, v .0, columns-of (read .model)), omega (arith, v .1, columns-of (read .model)))
-
-        asked : statesIn (taskOn m) states ≡ length states / read .model .columns
+        asked : statesIn (taskOn m) states ≡ length states / columns
         unfolding statesIn
-        asked = ap (λ (n : ℕ). length states / n) (given-columns m e code)
+        asked = ap (λ (n : ℕ). length states / n) wide
 
-        module _ {bad : ℕ} (b : (t : Task) → columnCount t ≡ read .model .columns → ((j : ℕ) → j < read .model .columns → sizeOf t (column j) ≡ getD (read .model .size) j 0) → bad ≡ cond (badStates t states) 11 0) where
-          said : bad ≡ cond (badStates (taskOf (read .model)) states) 11 0
-          said = b (taskOf (read .model)) (columns-of (read .model)) (λ j h. size-of (read .model) (column j) h)
+        module _ {bad : ℕ} (b : (t : Task) → columnCount t ≡ f .shape .columns → ((j : ℕ) → j < f .shape .columns → sizeOf t (column j) ≡ getD (f .sizes) j 0) → bad ≡ cond (badStates t states) 11 0) where
+          said : bad ≡ cond (badStates (taskOn m) states) 11 0
+          said = b (taskOn m) wide (λ j h. p .sizes (column j) (omega (arith, h, wide)))
 
           -- a refusal of the states
           pub states-refused : (bad ≡ 0 → ⊥) → Asks m s states est (Refused bad) est
           states-refused n =
-              let q = eleven (badStates (taskOf (read .model)) states) said n in
-              refusing (q .1 ∙ after (applies 11 (badStates (taskOn m) states) _ (ap (λ (t : Task). badStates t states) (sym same) ∙ q .0) (λ h. omega arith))) n
+              let q = eleven (badStates (taskOn m) states) said n in
+              refusing (q .1 ∙ after (applies 11 (badStates (taskOn m) states) _ (q .0) (λ h. omega arith))) n
 
           module _ (k : bad ≡ 0) where
-            pub good : badStates (taskOf (read .model)) states ≡ false
-            good = fine (badStates (taskOf (read .model)) states) said k
-
-            good-on : badStates (taskOn m) states ≡ false
-            good-on = ap (λ (t : Task). badStates t states) (sym same) ∙ good
+            good : badStates (taskOn m) states ≡ false
+            good = fine (badStates (taskOn m) states) said k
 
             -- too few places
-            pub places-refused : length est < length states / read .model .columns → Asks m s states est (Refused 8) est
+            pub places-refused : length est < length states / columns → Asks m s states est (Refused 8) est
             places-refused h =
                 refusing
-                (after (passes 11 (badStates (taskOn m) states) _ good-on (applies 8 (ltb (length est) (statesIn (taskOn m) states)) [] (lt-ltb (length est) (statesIn (taskOn m) states) (omega (arith, asked))) (λ q. omega arith))))
+                (after (passes 11 (badStates (taskOn m) states) _ good (applies 8 (ltb (length est) (statesIn (taskOn m) states)) [] (lt-ltb (length est) (statesIn (taskOn m) states) (omega (arith, asked))) (λ q. omega arith))))
                 (λ q. omega arith)
 
-            module _ (h : length states / read .model .columns ≤ length est) where
-              pub places : statesIn (taskOf (read .model)) states ≤ length est
-              places = omega (arith, asked, ap (λ (t : Task). statesIn t states) same)
+            module _ (h : length states / columns ≤ length est) {part : List ℕ} (q : part ≡ tailOf s) where
+              pub posed : Posed (taskOn m) part (f .shape) tables (f .costs) exit states
+              posed =
+                  record {
+                    tabled = p .tabled;
+                    fine = rw q (sheets-ok m s [] j z .2);
+                    made = rw (q, sym wide) (j .made z);
+                    good = good;
+                  }
 
-              module _ {part : List ℕ} (p : part ≡ tailOf s) where
-                pub part-fine : judgeCuts (taskOf (read .model)) part ≡ 0
-                part-fine = rw (p, same) (sheets-ok m s [] j z .2)
+              pub answerable : Answerable part (f .shape) tables (f .costs) exit states (length est)
+              answerable = record { task = taskOn m; posed = posed; room = omega (arith, asked) }
 
-                pub blocks-made : Made (taskOf (read .model)) (cutOn part) (read .model .columns) (countOf part) exit
-                blocks-made = rw (p, same, sym (given-columns m e code)) (j .made z)
-
-                -- the estimates are there
-                pub answered : {next : List ℕ} → next ≡ over (estimatesOf (taskOf (read .model)) (cutsNamed (cutOn part) (countOf part)) states) est
-                    → Asks m s states est (Estimates (length states / read .model .columns)) next
-                unfolding asking cutsOf
-                answered f =
-                    let q : 0 ≡ refusal (questionChecks m s states est) =
-                    after (passes 11 (badStates (taskOn m) states) _ good-on (passes 8 (ltb (length est) (statesIn (taskOn m) states)) [] (le-ltb (length est) (statesIn (taskOn m) states) (omega (arith, asked))) no-checks)) in
-                    let o = f ∙ ap₂ (λ (t : Task) (l : List ℕ). over (estimatesOf t (cutsNamed (cutOn l) (countOf l)) states) est) same p in
-                    simp (eq-eqb (refusal (questionChecks m s states est)) 0 (sym q)) (ap₂ questionOutcome (ap Estimates (sym asked)) o)
+              -- the estimates are there
+              pub answered : {next : List ℕ} → next ≡ over (estimatesOf (taskOn m) (cutsNamed (cutOn part) (countOf part)) states) est
+                  → Asks m s states est (Estimates (length states / columns)) next
+              unfolding asking cutsOf
+              answered a =
+                  let n : 0 ≡ refusal (questionChecks m s states est) =
+                  after (passes 11 (badStates (taskOn m) states) _ good (passes 8 (ltb (length est) (statesIn (taskOn m) states)) [] (le-ltb (length est) (statesIn (taskOn m) states) (omega (arith, asked))) no-checks)) in
+                  let o = a ∙ ap (λ (l : List ℕ). over (estimatesOf (taskOn m) (cutsNamed (cutOn l) (countOf l)) states) est) q in
+                  simp (eq-eqb (refusal (questionChecks m s states est)) 0 (sym n)) (ap₂ questionOutcome (ap Estimates (sym asked)) o)

@@ -11,11 +11,12 @@ use Rattle.task.specs.Task.{Task, Accepted, block, columnCount}
 use Rattle.task.proofs.LoopLaws.{over-at}
 use Rattle.fields.specs.Judging.{each}
 use Rattle.fields.specs.Places.{puts}
+use Rattle.fields.proofs.PlaceLaws.{puts-length}
 use Rattle.blocks.specs.Blocks.{accepted, blocksOf}
 use Rattle.blocks.specs.Flat.{blocksIn, cutsIn}
 use Rattle.blocks.proofs.PartLaws.{fits}
 use Rattle.distances.specs.Distances.{distances}
-use Rattle.settling.specs.Coded.{codedAt, codedOver}
+use Rattle.settling.specs.Coded.{codedAt, codedOver, Measured}
 use Rattle.settling.proofs.JoinLaws.{coded-says}
 use Rattle.settling.proofs.CostLaws.{made}
 use Rattle.cut_sheets.specs.CutPart.{cutNamed, cutsNamed, cutOn, countOf, judgeCuts, ofCutPart, cutPartWith}
@@ -49,7 +50,7 @@ module _ (t : Task) {columns : ℕ} (wide : columnCount t ≡ columns) (v : Acce
     pub coded : dist ≡ codedOver t (blocksOf t (cutsIn count cuts)) (count + 1) dist₀
     coded = rw stands at d
 
-    pub dist-small : (a : ℕ) → a ≤ count → getD dist a 0 / tenth ≤ limits .«no_way»
+    dist-small : (a : ℕ) → a ≤ count → getD dist a 0 / tenth ≤ limits .«no_way»
     unfolding codedOver
     dist-small a h =
         let bs = blocksOf t (cutsIn count cuts) in
@@ -57,6 +58,15 @@ module _ (t : Task) {columns : ℕ} (wide : columnCount t ≡ columns) (v : Acce
         let s = coded-says t bs (v .tenths) (omega (arith, k)) (block a) (omega (arith, k)) .top in
         let g : getD dist a 0 ≡ codedAt (distances t bs) a = ap (λ (z : List ℕ). getD z a 0) coded ∙ over-at (count + 1) _ dist₀ 0 a (omega arith) in
         omega (arith, g, s)
+
+    -- the cuts can be followed, and each of their blocks has a cost
+    pub measured : Measured count cuts dist
+    measured =
+        let l : length cuts ≡ length old = ap length f ∙ puts-length 0 (each count (cutValues (cutOn part))) old in
+        record {
+          follows = record { few = few; long = omega arith; columns = λ i h. omega (arith, column-small i h, v .columns .1, wide) };
+          costs = dist-small;
+        }
 
     pub answered : (states old-estimates : List ℕ) → badStates t states ≡ false → {est : List ℕ}
         → est ≡ over (tab (length states / columns) (λ k. costFound dist cuts count (wideState columns states k))) old-estimates

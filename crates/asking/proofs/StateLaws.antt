@@ -21,7 +21,7 @@ module _ (sizes : List ℕ) (n : ℕ) (bytes : List ℕ) where
 
   -- bad by a table of sizes
   unfoldable pub badBy : Bool
-  badBy = not (eqb (length bytes % n) 0) || (ltb 64 (length bytes / n) || not (fitTo (length bytes)))
+  badBy = not (eqb (length bytes % n) 0) || (ltb (limits .states) (length bytes / n) || not (fitTo (length bytes)))
 
   pub fit-none : fitTo 0 ≡ true
   unfolding fitTo all
@@ -35,8 +35,8 @@ module _ (sizes : List ℕ) (n : ℕ) (bytes : List ℕ) where
   pub bad-said : 1 ≤ n → (t : Task) → columnCount t ≡ n → ((j : ℕ) → j < n → sizeOf t (column j) ≡ getD sizes j 0) → badBy ≡ badStates t bytes
   unfolding badBy badStates statesIn fitTo
   bad-said pos t hc hs =
-      ap (λ a. not (eqb (length bytes % n) 0) || (ltb 64 (length bytes / n) || not a)) same
-      ∙ sym (ap (λ m. not (eqb (length bytes % m) 0) || (ltb 64 (length bytes / m) || not (all (length bytes) (λ i. ltb (getD bytes i 0) (sizeOf t (column (i % m))))))) hc)
+      ap (λ a. not (eqb (length bytes % n) 0) || (ltb (limits .states) (length bytes / n) || not a)) same
+      ∙ sym (ap (λ m. not (eqb (length bytes % m) 0) || (ltb (limits .states) (length bytes / m) || not (all (length bytes) (λ i. ltb (getD bytes i 0) (sizeOf t (column (i % m))))))) hc)
     where
       same : all (length bytes) (λ i. ltb (getD bytes i 0) (getD sizes (i % n) 0)) ≡ all (length bytes) (λ i. ltb (getD bytes i 0) (sizeOf t (column (i % n))))
       same = all-ext (length bytes) _ _ (λ i h. ap (ltb (getD bytes i 0)) (sym (hs (i % n) (mod-lt i pos))))
@@ -49,18 +49,18 @@ module _ (sizes : List ℕ) (n : ℕ) (bytes : List ℕ) where
   or-true true e = refl
   or-true false e = e
 
-  pub too-many : 64 < length bytes / n → badBy ≡ true
+  pub too-many : limits .states < length bytes / n → badBy ≡ true
   unfolding badBy
-  too-many h = or-true (not (eqb (length bytes % n) 0)) (rw (lt-ltb 64 (length bytes / n) h))
+  too-many h = or-true (not (eqb (length bytes % n) 0)) (rw (lt-ltb (limits .states) (length bytes / n) h))
 
   pub no-position : (i : ℕ) → i < length bytes → getD sizes (i % n) 0 ≤ getD bytes i 0 → badBy ≡ true
   unfolding badBy fitTo
   no-position i h l =
-      or-true (not (eqb (length bytes % n) 0)) (or-true (ltb 64 (length bytes / n)) (ap not (all-fails (length bytes) _ i h (le-ltb _ _ l))))
+      or-true (not (eqb (length bytes % n) 0)) (or-true (ltb (limits .states) (length bytes / n)) (ap not (all-fails (length bytes) _ i h (le-ltb _ _ l))))
 
   pub all-good : length bytes % n ≡ 0 → length bytes / n ≤ 64 → fitTo (length bytes) ≡ true → badBy ≡ false
   unfolding badBy
-  all-good e l h = rw (eq-eqb (length bytes % n) 0 e) (rw (le-ltb 64 (length bytes / n) l) (ap not h))
+  all-good e l h = rw (eq-eqb (length bytes % n) 0 e) (rw (le-ltb (limits .states) (length bytes / n) l) (ap not h))
 
   -- what the code answers, for every task of these sizes
   pub answers : 1 ≤ n → {b : Bool} → badBy ≡ b → (t : Task) → columnCount t ≡ n → ((j : ℕ) → j < n → sizeOf t (column j) ≡ getD sizes j 0) → _≡_ {A = ℕ} (cond b 11 0) (cond (badStates t bytes) 11 0)

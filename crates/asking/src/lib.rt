@@ -1,31 +1,34 @@
 // Asking for the estimates of states: the states judged and read, and one estimate written for each.
 ghost use mathlib.Core.Path.{_≡_};
-ghost use mathlib.Core.Bool.{false, cond};
+ghost use mathlib.Core.Bool.{cond};
 ghost use Prim.Native.Nat.{ℕ, _+_, _*_, _/_, _≤_, _<_};
 ghost use lib.ListN.{length, getD};
 ghost use Rattle.task.specs.Loops.{tab, over};
-ghost use Rattle.task.specs.Sizes.{limits, tenth};
-ghost use Rattle.task.specs.Tables.{taskOf};
-ghost use Rattle.task.specs.Task.{Task, Accepted, column, position, columnCount, sizeOf};
-ghost use Rattle.blocks.specs.Flat.{blocksIn};
-ghost use Rattle.settling.specs.Coded.{codedOver};
-ghost use Rattle.cut_sheets.specs.CutPart.{cutsNamed, cutOn, countOf, judgeCuts};
-ghost use Rattle.cut_sheets.specs.Judged.{Made};
-ghost use Rattle.asking.specs.Question.{statesIn, badStates, wideState, costFound, estimatesOf, Asks};
+ghost use Rattle.task.specs.Sizes.{limits, mostValues, tenth};
+ghost use Rattle.task.specs.Task.{Task, column, position, columnCount, sizeOf};
+ghost use Rattle.fields.specs.Judging.{each};
+ghost use Rattle.fields.specs.Places.{puts};
+ghost use Rattle.blocks.specs.Flat.{blocksIn, Placed};
+ghost use Rattle.blocks.specs.Masks.{Within, TablesOf};
+ghost use Rattle.settling.specs.Coded.{codedOver, Measured};
+ghost use Rattle.cut_sheets.specs.CutPart.{cutsNamed, cutOn, countOf};
+ghost use Rattle.cut_sheets.specs.CutSheet.{cutValues};
+ghost use Rattle.asking.specs.Question.{badStates, wideState, costFound, estimatesOf, Asks};
+ghost use Rattle.asking.specs.Posing.{Posed, Answerable, Fillable};
 use cut_reading::fill_cuts;
 use cut_reading::judge_cut_sheet;
+use cut_sheets::cut_count;
 use cutting::block_of;
-use fields::field::field;
-use masks::fill_goals;
-use masks::fill_lands;
-use masks::fill_needs;
+use preparing::prepare;
 use settling::fill_distances;
 use task::BlockSets;
+use task::Costs;
 use task::Distances;
 use task::Model;
 use task::Position;
+use task::Shape;
 use task::State;
-use unpack::unpack_model;
+use task::Tables;
 
 // How many estimates were written, or a refusal.
 pub enum Asked {
@@ -72,10 +75,7 @@ fn read_state(states: &[u8], columns: usize, k: usize) -> State
 
 // The cost from a state's block on, from a table of distances.
 fn find_cost(count: usize, cuts: &[u32], dist: &Distances, state: State) -> u32
-    requires { ⌜ (count < limits .blocks) × (count * 3 ≤ length (now cuts))
-        × ((i : ℕ) → i < count → (getD (now cuts) (i * 3 + 1) 0 < limits .columns)
-        × (getD state (getD (now cuts) (i * 3 + 1) 0) (position 0) .0 < limits .positions))
-        × ((a : ℕ) → a ≤ count → getD (now dist) a 0 / tenth ≤ limits .«no_way») ⌝ }
+    requires { ⌜ Measured count (now cuts) (now dist) × Placed count (now cuts) state ⌝ }
     ensures { λ r. ⌜ r ≡ costFound (now (dist .entry)) (now (cuts .entry)) count state ⌝ }
 {
     let b = block_of(count, cuts, state);
@@ -91,11 +91,7 @@ pub fn fill_estimates(
     states: &[u8],
     estimates: &mut [u32],
 )
-    requires { ⌜ (1 ≤ columns) × (columns ≤ limits .columns) × (count < limits .blocks) × (count * 3 ≤ length (now cuts))
-        × (length (now states) / columns ≤ limits .states) × (length (now states) / columns ≤ length (now estimates))
-        × ((i : ℕ) → i < count → getD (now cuts) (i * 3 + 1) 0 < columns)
-        × ((i : ℕ) → i < length (now states) → getD (now states) i 0 < limits .positions)
-        × ((a : ℕ) → a ≤ count → getD (now dist) a 0 / tenth ≤ limits .«no_way») ⌝ }
+    requires { ⌜ Measured count (now cuts) (now dist) × Fillable columns count (now cuts) (now states) (length (now estimates)) ⌝ }
     ensures { λ _. ⌜ now (estimates .exit)
         ≡ over (tab (length (now (states .entry)) / columns)
         (λ k. costFound (now (dist .entry)) (now (cuts .entry)) count (wideState columns (now (states .entry)) k)))
@@ -110,48 +106,48 @@ pub fn fill_estimates(
     }
 }
 
-// The distances of the blocks in an array, by the masks of the model.
-fn measure(model: Model, count: usize, sets: &BlockSets, dist: &mut Distances)
-    requires { ⌜ Accepted (taskOf model) × (count ≤ limits .blocks) × (length (now dist) ≡ limits .blocks) ⌝ }
-    ensures { λ _. ⌜ now (dist .exit) ≡ codedOver (taskOf model) (blocksIn (model .columns) count (now (sets .entry))) count (now (dist .entry)) ⌝ }
+// The cuts of an accepted part, and the distances of their blocks, which stand in the array. Returns how many cuts there are.
+pub fn measure(
+    shape: Shape,
+    part: &[u8],
+    tables: &Tables,
+    costs: &Costs,
+    sets: &BlockSets,
+    cuts: &mut [u32],
+    dist: &mut Distances,
+) -> usize
+    requires { ⌜ Within shape × (mostValues ≤ length (now cuts)) × (length (now dist) ≡ limits .blocks) ⌝ }
+    ensures { λ r. ⌜ (r ≡ countOf (now (part .entry))) × (r < limits .blocks) ⌝
+        ∗ ⌜ now (cuts .exit) ≡ puts 0 (each r (cutValues (cutOn (now (part .entry))))) (now (cuts .entry)) ⌝
+        ∗ ⌜ ((t : Task) → TablesOf t shape (now (tables .entry)) (now (costs .entry))
+        → now (dist .exit) ≡ codedOver t (blocksIn (shape .columns) (r + 1) (now (sets .entry))) (r + 1) (now (dist .entry))) ⌝ }
 {
-    let columns = model.columns;
-    let steps = model.steps;
-    let costs = model.cost;
-    let mut needs = [0u32; Model::STEPS * Model::COLUMNS];
-    fill_needs(model, &mut needs);
-    let mut lands = [0u32; Model::STEPS * Model::COLUMNS];
-    fill_lands(model, &mut lands);
-    let mut goals = [0u32; Model::COLUMNS];
-    fill_goals(model, &mut goals);
-    fill_distances(
-        columns,
-        steps,
-        count,
-        &needs,
-        &lands,
-        &goals,
-        &costs,
-        sets,
-        dist,
-    );
+    let count = cut_count(part);
+    fill_cuts(part, count, cuts);
+    fill_distances(shape, count + 1, tables, costs, sets, dist);
+    count
 }
 
 // The estimates of states, after the cuts of a part whose blocks stand in the array.
-fn answer(model: Model, part: &[u8], sets: &BlockSets, states: &[u8], estimates: &mut [u32])
-    requires { ⌜ Accepted (taskOf model) × (judgeCuts (taskOf model) (now part) ≡ 0)
-        × Made (taskOf model) (cutOn (now part)) (model .columns) (countOf (now part)) (now sets)
-        × (badStates (taskOf model) (now states) ≡ false) × (statesIn (taskOf model) (now states) ≤ length (now estimates)) ⌝ }
-    ensures { λ _. ⌜ now (estimates .exit)
-        ≡ over (estimatesOf (taskOf model) (cutsNamed (cutOn (now (part .entry))) (countOf (now (part .entry)))) (now (states .entry)))
-        (now (estimates .entry)) ⌝ }
+fn answer(
+    shape: Shape,
+    part: &[u8],
+    tables: &Tables,
+    costs: &Costs,
+    sets: &BlockSets,
+    states: &[u8],
+    estimates: &mut [u32],
+)
+    requires { ⌜ Answerable (now part) shape (now tables) (now costs) (now sets) (now states) (length (now estimates)) ⌝ }
+    ensures { λ _. ⌜ ((t : Task)
+        → Posed t (now (part .entry)) shape (now (tables .entry)) (now (costs .entry)) (now (sets .entry)) (now (states .entry))
+        → now (estimates .exit)
+        ≡ over (estimatesOf t (cutsNamed (cutOn (now (part .entry))) (countOf (now (part .entry)))) (now (states .entry))) (now (estimates .entry))) ⌝ }
 {
-    let columns = model.columns;
-    let count = field(part, 4, 8) as usize;
+    let columns = shape.columns;
     let mut cuts = [0u32; (Model::BLOCKS - 1) * 3];
-    fill_cuts(part, count, &mut cuts);
     let mut dist = [0u64; Model::BLOCKS];
-    measure(model, count + 1, sets, &mut dist);
+    let count = measure(shape, part, tables, costs, sets, &mut cuts, &mut dist);
     fill_estimates(columns, count, &cuts, &dist, states, estimates);
 }
 
@@ -164,10 +160,11 @@ pub fn question(model: &[u8], sheet: &[u8], states: &[u8], estimates: &mut [u32]
     if r != 0 {
         return Asked::Refused(r);
     }
-    let read = unpack_model(model);
-    let given = read.model;
-    let columns = given.columns;
-    let sizes = given.size;
+    let mut tables = [0u32; (2 * Model::STEPS + 2) * Model::COLUMNS];
+    let frame = prepare(model, &mut tables);
+    let shape = frame.shape;
+    let columns = shape.columns;
+    let sizes = frame.sizes;
     let bad = judge_states(&sizes, columns, states);
     if bad != 0 {
         return Asked::Refused(bad);
@@ -176,7 +173,16 @@ pub fn question(model: &[u8], sheet: &[u8], states: &[u8], estimates: &mut [u32]
     if estimates.len() < asked {
         return Asked::Refused(8);
     }
+    let costs = frame.costs;
     let start = model.len();
-    answer(given, &sheet[start..], &sets, states, estimates);
+    answer(
+        shape,
+        &sheet[start..],
+        &tables,
+        &costs,
+        &sets,
+        states,
+        estimates,
+    );
     Asked::Estimates(asked)
 }

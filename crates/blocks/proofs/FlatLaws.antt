@@ -21,7 +21,7 @@ use Rattle.task.proofs.TableLaws.{columns-of, size-of}
 use Rattle.task.proofs.LoopLaws.{over-length, tab-at, tab-length, tab-ext, below-suc}
 use Rattle.blocks.specs.declared.Cut.{Cut}
 use Rattle.blocks.specs.Blocks.{PositionSet, Sets, Blocks, every, common, without, setAt, blockAt, withSet, cutBlock, whole, cutOk}
-use Rattle.blocks.specs.Flat.{past, rowOf, setsIn, blocksIn, laid, cutIn}
+use Rattle.blocks.specs.Flat.{past, rowOf, setsIn, blocksIn, laid, cutIn, Cuttable}
 use Rattle.blocks.specs.Masks.{parts}
 use borrow.Author.Tests.{lt-ltb, le-ltb}
 use Rattle.blocks.proofs.PartLaws.{same-or-not, oldBlock, oldSet, restBlock, newBlock, cut-is}
@@ -60,6 +60,10 @@ module _ (f : ℕ → ℕ) (place : ℕ) (l : List ℕ) where
   pub laid-more : (n : ℕ) → laid (n + 1) f place l ≡ set (laid n f place l) (place + n) (f n)
   unfolding laid
   laid-more n = rw add-one refl
+
+  -- one store more
+  pub laid-set : (i at v : ℕ) {t : List ℕ} → t ≡ laid i f place l → at ≡ place + i → v ≡ f i → set t at v ≡ laid (i + 1) f place l
+  laid-set i at v e p q = rw (e, p, q) (sym (laid-more i))
 
   pub laid-length : (n : ℕ) → length (laid n f place l) ≡ length l
   unfolding laid
@@ -134,8 +138,7 @@ module _ (m : Model) (old : List ℕ) {sets : List ℕ} (e : sets ≡ over (whol
   first-fills v l = ap length e ∙ first-long (taskOf m) old (omega (arith, l, v)) ∙ l
 
 -- ---- a cut made in the array
-module _ (columns count : ℕ) (c : Cut) (sets : List ℕ) (wide : columns ≤ limits .columns) (room : count < limits .blocks)
-    (made : c .block .0 < count) (there : c .column .0 < columns) (long : length sets ≡ blockPlaces) where
+module _ (columns count : ℕ) (c : Cut) (sets : List ℕ) (can : Cuttable columns count c sets) where
   a : ℕ
   a = c .block .0
 
@@ -157,7 +160,7 @@ module _ (columns count : ℕ) (c : Cut) (sets : List ℕ) (wide : columns ≤ l
 
   copy-long : length copy ≡ blockPlaces
   unfolding copy
-  copy-long = laid-length (past sets (rowOf a)) (rowOf count) sets columns ∙ long
+  copy-long = laid-length (past sets (rowOf a)) (rowOf count) sets columns ∙ can .long
 
   new-long : length with-new ≡ blockPlaces
   unfolding with-new
@@ -195,18 +198,18 @@ module _ (columns count : ℕ) (c : Cut) (sets : List ℕ) (wide : columns ≤ l
 
   old-is : oldBlock (blocksIn columns count sets) c ≡ setsIn columns sets a
   unfolding oldBlock a
-  old-is = block-at columns count sets (c .block) made
+  old-is = block-at columns count sets (c .block) (can .made)
 
   old-set : oldSet (blocksIn columns count sets) c ≡ old
   unfolding oldSet old a j
-  old-set = rw old-is (set-at columns sets a (c .column) there)
+  old-set = rw old-is (set-at columns sets a (c .column) (can .there))
 
   rest-is : setsIn columns (cutIn columns count c sets) a ≡ restBlock (blocksIn columns count sets) c
   unfolding restBlock withSet setsIn a j
   rest-is =
       rw (old-set, old-is)
       (tab-set columns (past sets (rowOf a)) (past (cutIn columns count c sets) (rowOf a)) j (without old (c .wanted)) 0 at-rest
-      (λ i k n. at-kept a i made k (λ z. n (omega arith))))
+      (λ i k n. at-kept a i (can .made) k (λ z. n (omega arith))))
 
   new-is : setsIn columns (cutIn columns count c sets) count ≡ newBlock (blocksIn columns count sets) c
   unfolding newBlock withSet setsIn a j

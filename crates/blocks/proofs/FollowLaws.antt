@@ -18,7 +18,7 @@ use Rattle.task.specs.Sizes.{limits, blockPlaces}
 use Rattle.task.proofs.LoopLaws.{and-left, and-right, tab-length, below-suc}
 use Rattle.blocks.specs.declared.Cut.{Cut}
 use Rattle.blocks.specs.Blocks.{Blocks, blockAt, cutBlock, inBlock, whole, cutOk, cutsOk, cutAll, accepted, blocksOf, blockOf}
-use Rattle.blocks.specs.Flat.{blocksIn, cutIn, cutAt, cutsIn, goesOn, followed}
+use Rattle.blocks.specs.Flat.{blocksIn, cutIn, Cuttable, cutAt, cutsIn, goesOn, followed}
 use Rattle.blocks.proofs.LeadLaws.{in-within}
 use Rattle.blocks.proofs.PartLaws.{same-or-not, Parts, CutFits, Origin, origin, fits, cut-parts}
 use Rattle.blocks.proofs.FlatLaws.{cut-made}
@@ -101,10 +101,9 @@ unfolding cutsIn
 cuts-length n l = tab-length n (cutAt l)
 
 -- an array that holds the blocks of some cuts holds those of one cut more after it is made
-pub cut-kept : (t : Task) (cs : List Cut) (c : Cut) (columns count : ℕ) (sets : List ℕ) → columns ≤ limits .columns → count < limits .blocks
-    → c .block .0 < count → c .column .0 < columns → length sets ≡ blockPlaces
+pub cut-kept : (t : Task) (cs : List Cut) (c : Cut) (columns count : ℕ) (sets : List ℕ) → Cuttable columns count c sets
     → blocksIn columns count sets ≡ blocksOf t cs → blocksIn columns (count + 1) (cutIn columns count c sets) ≡ blocksOf t (cs ++ (c ∷ []))
-cut-kept t cs c columns count sets w r m h l e = cut-made columns count c sets w r m h l ∙ rw e (sym (blocks-more t cs c))
+cut-kept t cs c columns count sets can e = cut-made columns count c sets can ∙ rw e (sym (blocks-more t cs c))
 
 -- ---- the whole list
 module _ (t : Task) (v : Accepted t) where

@@ -3,20 +3,21 @@ use mathlib.Core.Bool.{Bool, _&&_, not, cond}
 use mathlib.Core.List.{List}
 use mathlib.Core.Option.{Option, none, some}
 use mathlib.Core.Path.{_≡_}
-use Prim.Native.Nat.{ℕ, _-_, _*_, _<_}
+use Prim.Native.Nat.{ℕ, _-_, _*_, _≤_, _<_}
 use lib.Dec.{eqb, ltb}
-use lib.ListN.{getD}
+use lib.ListN.{getD, drop}
 use Rattle.task.specs.declared.Column.{Column}
 use Rattle.task.specs.declared.Position.{Position}
 use Rattle.task.specs.declared.Step.{Step}
 use Rattle.task.specs.declared.Mark.{Mark}
 use Rattle.task.specs.declared.Model.{Model}
-use Rattle.task.specs.Loops.{all, tab}
-use Rattle.task.specs.Sizes.{limits}
-use Rattle.task.specs.Task.{Task, State, position, at, columnCount, stepCount, costOf, needAt, effectAt, goalAt}
+use Rattle.task.specs.declared.Shape.{Shape}
+use Rattle.task.specs.Loops.{all}
+use Rattle.task.specs.Sizes.{limits, stepPlaces, landsRow, goalRow, startRow}
+use Rattle.task.specs.Task.{Task, State, Accepted, start, position, at, columnCount, stepCount, costOf, needAt, effectAt, goalAt}
 use Rattle.task.specs.Tables.{mark}
 use Rattle.blocks.specs.Blocks.{PositionSet, only, common, without, isEmpty}
-use Rattle.blocks.specs.Flat.{past, rowOf}
+use Rattle.blocks.specs.Flat.{past, rowOf, laid}
 
 -- a need or a goal as a set: its position, nothing where there is none
 unfoldable pub wants : Option Position → PositionSet
@@ -63,20 +64,29 @@ module _ (m : Model) where
   unfoldable pub goalSet : ℕ → PositionSet
   goalSet j = markSet (getD (m .goal) j (mark 0))
 
-  unfoldable pub needSets : List PositionSet
-  needSets = tab (limits .steps * limits .columns) needSet
-
-  unfoldable pub landSets : List PositionSet
-  landSets = tab (limits .steps * limits .columns) landsSet
-
-  unfoldable pub goalSets : List PositionSet
-  goalSets = tab (limits .columns) goalSet
+  unfoldable pub startSet : ℕ → PositionSet
+  startSet j = only (getD (m .start) j (position 0))
 
 -- the tables say what the task says
 pub record Told (t : Task) (needs lands goals : List PositionSet) : Type 0 where
   pub need : (s : Step) (j : Column) → s .0 < stepCount t → j .0 < columnCount t → past needs (rowOf (s .0)) (j .0) ≡ wants (needAt t s j)
   pub land : (s : Step) (j : Column) → s .0 < stepCount t → j .0 < columnCount t → past lands (rowOf (s .0)) (j .0) ≡ landing (needAt t s j) (effectAt t s j)
   pub goal : (j : Column) → j .0 < columnCount t → getD goals (j .0) 0 ≡ wants (goalAt t j)
+
+-- ---- the tables in one array: a row for what each step needs, then for where each lands, then the goal, then the start as it stands
+
+-- the rows from row r on
+unfoldable pub rowsFrom : ℕ → List ℕ → List ℕ
+rowsFrom r tables = drop (rowOf r) tables
+
+abbrev pub landsIn : List ℕ → List ℕ
+landsIn tables = rowsFrom landsRow tables
+
+abbrev pub goalsIn : List ℕ → List ℕ
+goalsIn tables = rowsFrom goalRow tables
+
+abbrev pub startIn : List ℕ → List ℕ
+startIn tables = rowsFrom startRow tables
 
 -- a row of sets with one position each holds the positions of a state
 unfoldable pub Stands : Task → State → List PositionSet → Type 0
@@ -88,6 +98,27 @@ pub record Tables (t : Task) (columns steps : ℕ) (needs lands goals costs : Li
   pub long : stepCount t ≡ steps
   pub told : Told t needs lands goals
   pub cost : (s : Step) → s .0 < steps → costOf t s ≡ getD costs (s .0) 0
+
+-- the same where they stand in one array
+abbrev pub TablesOf : Task → Shape → (tables costs : List ℕ) → Type 0
+TablesOf t f tables costs = Tables t (f .columns) (f .steps) tables (landsIn tables) (goalsIn tables) costs
+
+-- and the task is accepted, with its start as it stands
+pub record Tabled (t : Task) (f : Shape) (tables costs : List ℕ) : Type 0 where
+  pub task : Accepted t
+  pub own : TablesOf t f tables costs
+  pub start : Stands t (start t) (startIn tables)
+
+-- a shape within the limits, so that every row is there
+pub record Within (f : Shape) : Type 0 where
+  pub columns : f .columns ≤ limits .columns
+  pub steps : f .steps ≤ limits .steps
+
+-- a model's tables, laid over what the array held
+unfoldable pub tablesOf : Model → List ℕ → List ℕ
+tablesOf m old =
+    laid (m .columns) (startSet m) (rowOf startRow)
+    (laid (limits .columns) (goalSet m) (rowOf goalRow) (laid stepPlaces (landsSet m) (rowOf landsRow) (laid stepPlaces (needSet m) 0 old)))
 
 -- ---- the tests on the tables
 

@@ -8,25 +8,23 @@ use lib.Dec.{eqb, leb, ltb}
 use lib.ListN.{length, getD, take, drop}
 use borrow.Author.Tests.{le-leb, lt-leb, lt-ltb, le-ltb, eq-eqb, ne-eqb}
 use Rattle.task.specs.Loops.{all, tab, over}
-use Rattle.task.specs.Sizes.{limits, blockPlaces}
-use Rattle.task.specs.Task.{Task, ColumnEntry, Accepted, noColumn, column, columnCount, sizeOf, perColumn}
+use Rattle.task.specs.Sizes.{blockPlaces}
+use Rattle.task.specs.Task.{Task, columnCount}
 use Rattle.task.specs.Tables.{taskOf}
-use Rattle.task.proofs.LoopLaws.{and-both, all-more, all-fails, tab-ext}
+use Rattle.task.proofs.LoopLaws.{and-both, all-more, all-fails}
 use Rattle.fields.specs.Judging.{refusal, each}
 use Rattle.fields.specs.Places.{puts}
 use Rattle.fields.proofs.JudgingLaws.{stop, go, applies, passes, no-checks, refusal-append, refused-is}
 use Rattle.fields.proofs.PlaceLaws.{each-length, puts-over, rest-all}
 use Rattle.sheets.specs.LentTables.{tooFew}
-use Rattle.blocks.specs.Blocks.{PositionSet, every, whole, cutAll, blocksOf}
-use Rattle.blocks.specs.Flat.{blocksIn}
-use Rattle.blocks.proofs.FlatLaws as flat
+use Rattle.blocks.specs.Blocks.{whole, cutAll, blocksOf}
 use Rattle.blocks.proofs.FlatLaws.{first-stands, first-fills}
-use Rattle.sheets.specs.ModelSheet.{columnsOf, columnOn, sheetWith, ofSheet, judgePart, judgeSheet}
-use Rattle.sheets.specs.Holding.{columnSaid, taskOn}
+use Rattle.sheets.specs.ModelSheet.{columnsOf, judgePart, judgeSheet}
+use Rattle.sheets.specs.Holding.{taskOn}
 use Rattle.unpack.specs.declared.Read.{Read}
-use Rattle.unpack.specs.Unpacking.{sizeOn, unpacked}
-use Rattle.sheets.proofs.HeldTaskLaws.{accepted-task, columns-said, column-said}
+use Rattle.unpack.specs.Unpacking.{unpacked}
 use Rattle.unpack.proofs.GivenLaws.{given-task, given-accepted}
+use Rattle.preparing.proofs.WholeLaws.{whole-made}
 use Rattle.cut_sheets.specs.CutPart.{CutFields, cutsNamed, cutOn, countOf, judgeCuts}
 use Rattle.cut_sheets.specs.CutSheet.{tailOf, atFront, cutSheetChecks, cutValues, cutList, rebuildChecks}
 use Rattle.cut_sheets.specs.Judged.{Made, PartJudged}
@@ -63,47 +61,10 @@ module _ (a s : List ℕ) where
   unfolding atFront sameTo
   front-same h e = sym (and-both (le-leb (length a) (length s) h) e)
 
--- ---- block 0, from the sizes on a sheet
-unfoldable pub wholeOn : List ℕ → ℕ → PositionSet
-wholeOn m j = every (sizeOn m j)
-
-accepted : (m : List ℕ) → judgeSheet m ≡ 0 → Accepted (taskOn m)
-unfolding taskOn
-accepted m ok = accepted-task m ok
-
-module _ (m : List ℕ) where
-  size-on : (j : ℕ) → j < columnsOf m → sizeOf (taskOn m) (column j) ≡ sizeOn m j
-  unfolding taskOn sizeOf sizeOn noColumn columnSaid ofSheet sheetWith columnOn
-  size-on j h = ap (λ (c : ColumnEntry). c .size) (column-said (ofSheet m) j h)
-
-  columns-on : columnCount (taskOn m) ≡ columnsOf m
-  unfolding taskOn ofSheet sheetWith
-  columns-on = columns-said (ofSheet m)
-
-  pub whole-on : tab (columnsOf m) (wholeOn m) ≡ whole (taskOn m)
-  unfolding whole perColumn wholeOn
-  whole-on = rw columns-on (tab-ext (columnsOf m) _ _ (λ j h. ap every (sym (size-on j h))))
-
-  module _ (ok : judgeSheet m ≡ 0) {columns : ℕ} (w : columns ≡ columnsOf m) where
-    pub columns-small : columns ≤ limits .columns
-    columns-small = let k = accepted m ok .columns .1 in omega (arith, w, columns-on, k)
-
-    -- a size that was read
-    pub size-small : (j : ℕ) → j < columns → {r : ℕ} → r ≡ sizeOn m j → r ≤ limits .positions
-    size-small j h e = let k = accepted m ok .sizes (column j) (omega (arith, h, w, columns-on)) .1 in omega (arith, e, size-on j (omega (arith, h, w)), k)
-
 -- ---- block 0 alone, in the array
-module _ (m : List ℕ) (ok : judgeSheet m ≡ 0) {columns : ℕ} (w : columns ≡ columnsOf m) where
-  pub wide : columnCount (taskOn m) ≡ columns
-  wide = columns-on m ∙ sym w
-
-  pub whole-long : (sets : List ℕ) {next : List ℕ} → length sets ≡ blockPlaces → next ≡ over (whole (taskOn m)) sets → length next ≡ blockPlaces
-  whole-long sets l n = let k = accepted m ok .columns .1 in ap length n ∙ flat.first-long (taskOn m) sets (omega (arith, k, l)) ∙ l
-
-  pub whole-block : (f : ℕ → CutFields) (sets : List ℕ) {next : List ℕ} → next ≡ over (whole (taskOn m)) sets → Made (taskOn m) f columns 0 next
-  unfolding blocksOf cutAll cutsNamed tab
-  whole-block f sets n =
-      ap (blocksIn columns 1) n ∙ subst (λ (k : ℕ). blocksIn k 1 (over (whole (taskOn m)) sets) ≡ whole (taskOn m) ∷ []) wide (flat.first-made (taskOn m) sets)
+pub whole-block : (m : List ℕ) {columns : ℕ} → columns ≡ columnsOf m → (f : ℕ → CutFields) (sets : List ℕ) {next : List ℕ} → next ≡ over (whole (taskOn m)) sets → Made (taskOn m) f columns 0 next
+unfolding blocksOf cutAll cutsNamed tab
+whole-block m w f sets n = whole-made m w sets n
 
 -- ---- the given model
 module _ (m : List ℕ) {r : Read} (e : r ≡ unpacked m) where

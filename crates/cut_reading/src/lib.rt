@@ -2,22 +2,17 @@
 ghost use mathlib.Core.Path.{_≡_};
 ghost use Prim.Native.Nat.{_+_, _*_, _≤_, _<_};
 ghost use lib.ListN.{length};
-ghost use Rattle.task.specs.Loops.{over};
 ghost use Rattle.task.specs.Sizes.{limits, blockPlaces};
 ghost use Rattle.fields.specs.Judging.{each};
 ghost use Rattle.fields.specs.Places.{puts};
-ghost use Rattle.sheets.specs.ModelSheet.{columnsOf, judgeSheet};
-ghost use Rattle.sheets.specs.Holding.{taskOn};
-ghost use Rattle.blocks.specs.Blocks.{whole};
 ghost use Rattle.cut_sheets.specs.CutPart.{cutOn};
 ghost use Rattle.cut_sheets.specs.CutSheet.{atFront, cutValues};
 ghost use Rattle.cut_reading.specs.Rebuilding.{SheetJudged, Rebuilds};
 use cut_sheets::cut_bits;
 use cut_sheets::cut_count;
 use cut_sheets::judge_cut_tail;
-use cutting::every_position;
 use fields::field::field;
-use sheets::column_bits;
+use preparing::fill_whole;
 use sheets::judge_part;
 use sheets::judge_sheet;
 use task::BlockSets;
@@ -44,20 +39,6 @@ fn at_front(a: &[u8], s: &[u8]) -> bool
         i += 1;
     }
     true
-}
-
-// Block 0 with every state of the model on an accepted sheet. The sizes are read where they stand: the model's tables would take stack below all that is
-// judged here.
-fn fill_whole(model: &[u8], columns: usize, sets: &mut BlockSets)
-    requires { ⌜ (judgeSheet (now model) ≡ 0) × (columns ≡ columnsOf (now model)) × (length (now sets) ≡ blockPlaces) ⌝ }
-    ensures { λ _. ⌜ now (sets .exit) ≡ over (whole (taskOn (now (model .entry)))) (now (sets .entry)) ⌝ }
-{
-    let mut j: usize = 0;
-    while j < columns {
-        let size = field(model, column_bits(j), 6) as u8;
-        sets[j] = every_position(size);
-        j += 1;
-    }
 }
 
 // The refusal of both sheets: the given model, the inner one, 10, the cut part; 0 for none, and the array then holds the blocks.

@@ -17,7 +17,7 @@ use Rattle.sheets.specs.ModelSheet.{fillBits, fillPart}
 use Rattle.fields.proofs.JudgingLaws.{stopped, went, cut, spoilt, good, sheet-here, sheet-cut, place-here, place-cut, pass, hit, end, last-stopped, last-went}
 use Rattle.blocks.specs.declared.Cut.{Cut}
 use Rattle.blocks.specs.Blocks.{Blocks, cutOk, cutBlock, blocksOf}
-use Rattle.blocks.specs.Flat.{blocksIn, cutIn}
+use Rattle.blocks.specs.Flat.{blocksIn, cutIn, Cuttable}
 use Rattle.blocks.proofs.PartLaws.{fits}
 use Rattle.blocks.proofs.CutLaws as cuts
 use Rattle.blocks.proofs.CutLaws.{blocks-more}
@@ -148,15 +148,18 @@ lent-bad cuts sets columns i n j = record { place = λ z. absurd (n z); cut = ju
 
 -- a cut that was accepted is made: the array then holds the blocks of one cut more
 module _ (f : ℕ → CutFields) (sets : List ℕ) (columns i : ℕ) (wide : columns ≤ limits .columns) (room : i < mostSteps) (long : length sets ≡ blockPlaces) {c : Cut} {r : ℕ} (p : c ≡ cutNamed (f i)) (z : r ≡ 0) (j : CutJudged f columns i r sets) where
-  pub there : (c .block .0 < i + 1) × (c .column .0 < columns)
+  there : (c .block .0 < i + 1) × (c .column .0 < columns)
   there = rw p (j .block z, j .column z)
 
+  pub cuttable : Cuttable columns (i + 1) c sets
+  cuttable = record { wide = wide; room = omega arith; made = there .0; there = there .1; long = long }
+
   pub more-long : length (cutIn columns (i + 1) c sets) ≡ blockPlaces
-  more-long = cut-in-length columns (i + 1) c sets wide (omega arith) (there .0) (there .1) long
+  more-long = cut-in-length columns (i + 1) c sets cuttable
 
   pub made-more : (t : Task) → Made t f columns i sets → Made t f columns (i + 1) (cutIn columns (i + 1) c sets)
   made-more t m =
-      cut-made columns (i + 1) c sets wide (omega arith) (there .0) (there .1) long ∙ ap₂ cutBlock m p
+      cut-made columns (i + 1) c sets cuttable ∙ ap₂ cutBlock m p
       ∙ sym (blocks-more t (cutsNamed f i) (cutNamed (f i))) ∙ ap (blocksOf t) (sym (cuts-more f i) ∙ ap (cutsNamed f) (sym (add-one i)))
 
 -- what the loop holds

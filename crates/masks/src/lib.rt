@@ -1,16 +1,21 @@
-// Sets of positions as masks: the needs, landings and goals of a model, and the tests of a step and of the goal on the sets of blocks.
+// Sets of positions as masks: the tables of a model, and the tests of a step and of the goal on the sets of blocks.
 ghost use mathlib.Core.Path.{_≡_};
 ghost use Prim.Native.Nat.{_+_, _*_, _<_, _≤_};
 ghost use lib.ListN.{length};
-ghost use Rattle.task.specs.Sizes.{limits};
-ghost use Rattle.blocks.specs.Masks.{lies, allLie, passes, markSet, landSet, needSets, landSets, goalSets, leadsBy, goalBy};
+ghost use Rattle.task.specs.Sizes.{limits, stepPlaces, tablePlaces, landsRow, goalRow, startRow};
+ghost use Rattle.task.specs.Task.{Accepted};
+ghost use Rattle.task.specs.Tables.{taskOf};
+ghost use Rattle.blocks.specs.Blocks.{only};
+ghost use Rattle.blocks.specs.Flat.{rowOf, laid};
+ghost use Rattle.blocks.specs.Masks.{lies, allLie, passes, markSet, landSet, needSet, landsSet, goalSet, startSet};
+ghost use Rattle.blocks.specs.Masks.{landsIn, goalsIn, tablesOf, leadsBy, goalBy};
 use task::Block;
 use task::BlockSets;
-use task::ColumnSets;
 use task::Mark;
 use task::Model;
+use task::Position;
 use task::Step;
-use task::StepSets;
+use task::Tables;
 
 // The position of a mark as a set.
 fn mark_set(mark: Mark) -> u32
@@ -36,40 +41,76 @@ fn land_set(need: Mark, effect: Mark) -> u32
     mark_set(effect)
 }
 
-// The needs of every step as sets.
-pub fn fill_needs(model: Model, needs: &mut StepSets)
-    requires { ⌜ length (now needs) ≡ limits .steps * limits .columns ⌝ }
-    ensures { λ _. ⌜ now (needs .exit) ≡ needSets model ⌝ }
+// The set of one position.
+fn alone(position: Position) -> u32
+    requires { ⌜ position .0 < limits .positions ⌝ }
+    ensures { λ r. ⌜ r ≡ only position ⌝ }
+{
+    let p = position.0;
+    1 << p
+}
+
+// What every step needs, as sets.
+fn fill_needs(model: Model, tables: &mut Tables)
+    requires { ⌜ length (now tables) ≡ tablePlaces ⌝ }
+    ensures { λ _. ⌜ now (tables .exit) ≡ laid stepPlaces (needSet model) 0 (now (tables .entry)) ⌝ }
 {
     let mut i: usize = 0;
     while i < Model::STEPS * Model::COLUMNS {
-        needs[i] = mark_set(model.need[i]);
+        tables[i] = mark_set(model.need[i]);
         i += 1;
     }
 }
 
 // Where every step lands, as sets.
-pub fn fill_lands(model: Model, lands: &mut StepSets)
-    requires { ⌜ length (now lands) ≡ limits .steps * limits .columns ⌝ }
-    ensures { λ _. ⌜ now (lands .exit) ≡ landSets model ⌝ }
+fn fill_lands(model: Model, tables: &mut Tables)
+    requires { ⌜ length (now tables) ≡ tablePlaces ⌝ }
+    ensures { λ _. ⌜ now (tables .exit) ≡ laid stepPlaces (landsSet model) (rowOf landsRow) (now (tables .entry)) ⌝ }
 {
+    let row = Model::LANDS * Model::COLUMNS;
     let mut i: usize = 0;
     while i < Model::STEPS * Model::COLUMNS {
-        lands[i] = land_set(model.need[i], model.effect[i]);
+        tables[row + i] = land_set(model.need[i], model.effect[i]);
         i += 1;
     }
 }
 
 // The goal as sets.
-pub fn fill_goals(model: Model, goals: &mut ColumnSets)
-    requires { ⌜ length (now goals) ≡ limits .columns ⌝ }
-    ensures { λ _. ⌜ now (goals .exit) ≡ goalSets model ⌝ }
+fn fill_goal(model: Model, tables: &mut Tables)
+    requires { ⌜ length (now tables) ≡ tablePlaces ⌝ }
+    ensures { λ _. ⌜ now (tables .exit) ≡ laid (limits .columns) (goalSet model) (rowOf goalRow) (now (tables .entry)) ⌝ }
 {
+    let row = Model::GOAL * Model::COLUMNS;
     let mut j: usize = 0;
     while j < Model::COLUMNS {
-        goals[j] = mark_set(model.goal[j]);
+        tables[row + j] = mark_set(model.goal[j]);
         j += 1;
     }
+}
+
+// The start as it stands: sets of one position each.
+fn fill_start(model: Model, tables: &mut Tables)
+    requires { ⌜ Accepted (taskOf model) × (length (now tables) ≡ tablePlaces) ⌝ }
+    ensures { λ _. ⌜ now (tables .exit) ≡ laid (model .columns) (startSet model) (rowOf startRow) (now (tables .entry)) ⌝ }
+{
+    let columns = model.columns;
+    let row = Model::START * Model::COLUMNS;
+    let mut j: usize = 0;
+    while j < columns {
+        tables[row + j] = alone(model.start[j]);
+        j += 1;
+    }
+}
+
+// The tables of a model.
+pub fn fill_tables(model: Model, tables: &mut Tables)
+    requires { ⌜ Accepted (taskOf model) × (length (now tables) ≡ tablePlaces) ⌝ }
+    ensures { λ _. ⌜ now (tables .exit) ≡ tablesOf model (now (tables .entry)) ⌝ }
+{
+    fill_needs(model, tables);
+    fill_lands(model, tables);
+    fill_goal(model, tables);
+    fill_start(model, tables);
 }
 
 // Whether a step leads from one set to another, by its need and its landing there.
@@ -94,19 +135,24 @@ pub fn leads(
     step: Step,
     a: Block,
     b: Block,
-    needs: &StepSets,
-    lands: &StepSets,
+    tables: &Tables,
     sets: &BlockSets,
 ) -> bool
     requires { ⌜ (columns ≤ limits .columns) × (step .0 < limits .steps) × (a .0 < limits .blocks) × (b .0 < limits .blocks) ⌝ }
-    ensures { λ r. ⌜ r ≡ leadsBy columns (now (needs .entry)) (now (lands .entry)) (now (sets .entry)) (step .0) (a .0) (b .0) ⌝ }
+    ensures { λ r. ⌜ r ≡ leadsBy columns (now (tables .entry)) (landsIn (now (tables .entry))) (now (sets .entry)) (step .0) (a .0) (b .0) ⌝ }
 {
-    let rs = step.0 as usize * Model::COLUMNS;
+    let need = step.0 as usize * Model::COLUMNS;
+    let land = (Model::LANDS + step.0 as usize) * Model::COLUMNS;
     let ra = a.0 as usize * Model::COLUMNS;
     let rb = b.0 as usize * Model::COLUMNS;
     let mut j: usize = 0;
     while j < columns {
-        if !passes(needs[rs + j], lands[rs + j], sets[ra + j], sets[rb + j]) {
+        if !passes(
+            tables[need + j],
+            tables[land + j],
+            sets[ra + j],
+            sets[rb + j],
+        ) {
             return false;
         }
         j += 1;
@@ -137,10 +183,10 @@ pub fn all_lie(n: usize, i: usize, k: usize, wants: &[u32], sets: &[u32]) -> boo
 }
 
 // Whether block a is a goal block.
-pub fn is_goal_block(columns: usize, a: Block, goals: &ColumnSets, sets: &BlockSets) -> bool
+pub fn is_goal_block(columns: usize, a: Block, tables: &Tables, sets: &BlockSets) -> bool
     requires { ⌜ (columns ≤ limits .columns) × (a .0 < limits .blocks) ⌝ }
-    ensures { λ r. ⌜ r ≡ goalBy columns (now (goals .entry)) (now (sets .entry)) (a .0) ⌝ }
+    ensures { λ r. ⌜ r ≡ goalBy columns (goalsIn (now (tables .entry))) (now (sets .entry)) (a .0) ⌝ }
 {
     let ra = a.0 as usize * Model::COLUMNS;
-    all_lie(columns, 0, ra, goals, sets)
+    all_lie(columns, Model::GOAL * Model::COLUMNS, ra, tables, sets)
 }

@@ -1,4 +1,5 @@
 pub mod CutListLaws
-pub mod RefineLaws
+pub mod FromLaws
 pub mod LookLaws
 pub mod ModelLaws
+pub mod RefineLaws

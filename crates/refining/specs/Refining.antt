@@ -1,15 +1,20 @@
 -- The run as code makes it: a look at the blocks that stand in an array, and the cuts in a lent list.
 use Prim.Native.Nat.{ℕ, _+_, _*_, _/_, _≤_, _<_}
 use mathlib.Core.Path.{_≡_}
-use mathlib.Core.Bool.{true}
-use mathlib.Core.List.{List}
-use lib.ListN.{getD, take}
+use mathlib.Core.Bool.{true, _&&_, not, cond}
+use mathlib.Core.List.{List, []}
+use mathlib.Core.Option.{some}
+use lib.Dec.{eqb}
+use lib.ListN.{getD}
+use Rattle.task.specs.declared.Block.{Block}
+use Rattle.task.specs.declared.Shape.{Shape}
 use Rattle.task.specs.Loops.{over}
-use Rattle.task.specs.Sizes.{limits, tenth}
-use Rattle.task.specs.Task.{Task, State, Accepted, start}
-use Rattle.blocks.specs.Blocks.{accepted, blocksOf}
-use Rattle.blocks.specs.Flat.{blocksIn, cutsIn, cutPlace}
-use Rattle.blocks.specs.Masks.{Tables}
+use Rattle.task.specs.Sizes.{limits, tenth, startRow}
+use Rattle.task.specs.Task.{Task, start, block}
+use Rattle.blocks.specs.Blocks.{accepted, blocksOf, common, isEmpty, blockOf}
+use Rattle.blocks.specs.Flat.{blocksIn, cutPlace, past, rowOf}
+use Rattle.blocks.specs.Masks.{Tabled}
+use Rattle.blocks.specs.declared.Cut.{Cut}
 use Rattle.run.specs.Run as run
 use Rattle.run.specs.Run.{Outcome, hopeless, planned, flaw, plan, noPlan, «open»}
 use Rattle.walk.specs.declared.Found.{Found}
@@ -21,22 +26,33 @@ use Rattle.refining.specs.declared.Seen.the-variants.{Hopeless, Planned,
 use Rattle.refining.specs.declared.Ended.{Ended}
 use Rattle.refining.specs.declared.Ended.the-variants.{Plan, NoPlan, Open}
 
--- the tables and the start are those of an accepted task
-pub record Given (t : Task) (columns steps : ℕ) (x : State) (needs lands goals costs : List ℕ) : Type 0 where
-  pub task : Accepted t
-  pub tables : Tables t columns steps needs lands goals costs
-  pub start : take columns x ≡ start t
+-- the cuts were made: their blocks stand in the array, and the start lies in block a
+pub record Parted (t : Task) (cs : List Cut) (columns count : ℕ) (a : Block) (sets : List ℕ) : Type 0 where
+  pub ok : accepted t cs ≡ true
+  pub blocks : blocksIn columns count sets ≡ blocksOf t cs
+  pub from : blockOf t (blocksOf t cs) (start t) ≡ some a
 
--- so many cuts were made: they stand in the list, and their blocks in the array
-pub record Made (t : Task) (columns made : ℕ) (cuts sets : List ℕ) : Type 0 where
-  pub ok : accepted t (cutsIn made cuts) ≡ true
-  pub blocks : blocksIn columns (made + 1) sets ≡ blocksOf t (cutsIn made cuts)
-
--- some task has these tables and these cuts
-pub record Ready (columns steps : ℕ) (x : State) (needs lands goals costs : List ℕ) (made : ℕ) (cuts sets : List ℕ) : Type 0 where
+-- some task has these tables, and cuts with these blocks
+pub record Ready (f : Shape) (tables costs : List ℕ) (count : ℕ) (a : Block) (sets : List ℕ) : Type 0 where
   pub task : Task
-  pub given : Given task columns steps x needs lands goals costs
-  pub stand : Made task columns made cuts sets
+  pub cuts : List Cut
+  pub tabled : Tabled task f tables costs
+  pub parted : Parted task cuts (f .columns) count a sets
+
+-- no cut was made: block 0 alone stands in the array, and the start lies there
+abbrev pub Uncut : Task → Shape → List ℕ → Type 0
+Uncut t f sets = Parted t [] (f .columns) 1 (block 0) sets
+
+-- some task has these tables, and block 0 alone stands in the array
+pub record First (f : Shape) (tables costs sets : List ℕ) : Type 0 where
+  pub task : Task
+  pub tabled : Tabled task f tables costs
+  pub parted : Uncut task f sets
+
+-- the start's block after a cut: the new one where the cut is of its block and wants the one position that stands in its column
+unfoldable pub startBlock : Block → Cut → ℕ → List ℕ → Block
+startBlock a c new tables =
+    cond (eqb (c .block .0) (a .0) && not (isEmpty (common (past tables (rowOf startRow) (c .column .0)) (c .wanted)))) (block new) a
 
 -- what a walk found, where the start's distance is that number
 unfoldable pub seenBy : ℕ → Found → Seen

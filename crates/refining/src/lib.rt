@@ -1,35 +1,31 @@
 // The run: look at the blocks, make the cut of the flaw, and look again, until a plan, no plan, or a flaw with the room full.
 ghost use mathlib.Core.Path.{_≡_};
-ghost use mathlib.Core.List.{[]};
+ghost use mathlib.Core.List.{List, []};
 ghost use Prim.Native.Nat.{_+_, _*_, _≤_, _<_};
 ghost use lib.ListN.{length};
-ghost use Rattle.task.specs.Sizes.{limits};
-ghost use Rattle.task.specs.Tables.{taskOf};
-ghost use Rattle.task.specs.Task.{Task, Accepted};
+ghost use Rattle.task.specs.Sizes.{limits, blockPlaces};
+ghost use Rattle.task.specs.Task.{Task};
 ghost use Rattle.fields.specs.Places.{puts};
+ghost use Rattle.blocks.specs.declared.Cut.{Cut};
 ghost use Rattle.blocks.specs.Blocks.{blocksOf};
-ghost use Rattle.blocks.specs.Flat.{cutsIn, cutPlace};
+ghost use Rattle.blocks.specs.Flat.{cutPlace};
+ghost use Rattle.blocks.specs.Masks.{Tabled};
 ghost use Rattle.settling.specs.Ways.{noWay};
 ghost use Rattle.run.specs.Run as run;
 ghost use Rattle.run.specs.Run.{refine};
 ghost use Rattle.refining.specs.declared.Ended.the-variants.{Open};
-ghost use Rattle.refining.specs.Refining.{Given, Made, Ready, lookOf, seenBy, KnownSeen, endBy, RunEnds};
+ghost use Rattle.refining.specs.Refining.{Parted, Uncut, Ready, First, lookOf, seenBy, KnownSeen, endBy, startBlock, RunEnds};
 use blocks::Cut;
-use cutting::block_of;
-use cutting::fill_first;
 use cutting::make_cut;
-use masks::fill_goals;
-use masks::fill_lands;
-use masks::fill_needs;
 use settling::fill_distances;
-use standing::stand;
+use task::Block;
 use task::BlockSets;
-use task::ColumnSets;
+use task::Costs;
 use task::Distances;
 use task::Model;
 use task::Path;
-use task::State;
-use task::StepSets;
+use task::Shape;
+use task::Tables;
 use walk::Found;
 use walk::follow;
 
@@ -69,63 +65,30 @@ fn see(far: u64, found: Found) -> Seen
     }
 }
 
-// One look: the distances, the start's block, and the walk from it.
+// One look at the blocks, with the start in block `from`: the distances, and the walk from there.
 pub fn look(
-    columns: usize,
-    steps: usize,
-    made: usize,
-    start: State,
-    needs: &StepSets,
-    lands: &StepSets,
-    goals: &ColumnSets,
-    costs: &[u16],
-    cuts: &[u32],
+    shape: Shape,
+    count: usize,
+    from: Block,
+    tables: &Tables,
+    costs: &Costs,
     sets: &BlockSets,
     dist: &mut Distances,
     path: &mut Path,
 ) -> Seen
-    requires { ⌜ (made < limits .blocks) × (made * 3 ≤ length (now cuts)) × (steps ≤ length (now costs)) × (length (now dist) ≡ limits .blocks)
-        × (length (now path) ≡ limits .blocks) ⌝
-        ∗ ⌜ Ready columns steps start (now needs) (now lands) (now goals) (now costs) made (now cuts) (now sets) ⌝ }
-    ensures { λ r. ⌜ ((t : Task) → Given t columns steps start (now (needs .entry)) (now (lands .entry)) (now (goals .entry)) (now (costs .entry))
-        → Made t columns made (now (cuts .entry)) (now (sets .entry)) → lookOf r (now (path .exit))
-        ≡ run.look t (blocksOf t (cutsIn made (now (cuts .entry))))) ⌝
-        ∗ ⌜ KnownSeen steps r (now (path .exit)) × (length (now (dist .exit)) ≡ limits .blocks) × (length (now (path .exit)) ≡ limits .blocks) ⌝ }
+    requires { ⌜ (count ≤ limits .blocks) × (length (now dist) ≡ limits .blocks) × (length (now path) ≡ limits .blocks) ⌝
+        ∗ ⌜ Ready shape (now tables) (now costs) count from (now sets) ⌝ }
+    ensures { λ r. ⌜ ((t : Task) (cs : List Cut) → Tabled t shape (now (tables .entry)) (now (costs .entry))
+        → Parted t cs (shape .columns) count from (now (sets .entry)) → lookOf r (now (path .exit)) ≡ run.look t (blocksOf t cs)) ⌝
+        ∗ ⌜ KnownSeen (shape .steps) r (now (path .exit)) × (length (now (dist .exit)) ≡ limits .blocks) × (length (now (path .exit)) ≡ limits .blocks) ⌝ }
 {
-    let count = made + 1;
-    fill_distances(
-        columns,
-        steps,
-        count,
-        needs,
-        lands,
-        goals,
-        costs,
-        sets,
-        dist,
-    );
-    let from = block_of(made, cuts, start);
+    fill_distances(shape, count, tables, costs, sets, dist);
     let at = from.0 as usize;
     let far = dist[at];
     if Model::NO_WAY as u64 * Model::TENTH <= far {
         return Seen::Hopeless;
     }
-    let mut here = [0u32; Model::COLUMNS];
-    stand(columns, start, &mut here);
-    let found = follow(
-        columns,
-        steps,
-        count,
-        from,
-        needs,
-        lands,
-        goals,
-        costs,
-        sets,
-        dist,
-        &mut here,
-        path,
-    );
+    let found = follow(shape, count, from, tables, costs, sets, dist, path);
     see(far, found)
 }
 
@@ -149,45 +112,45 @@ fn end(seen: Seen, made: usize) -> Ended
     }
 }
 
+// The start's block after a cut that makes a new one: only a cut of its own block can take it there.
+fn start_block(from: Block, cut: Cut, new: usize, tables: &Tables) -> Block
+    requires { ⌜ (cut .column .0 < limits .columns) × (new < limits .blocks) ⌝ }
+    ensures { λ r. ⌜ r ≡ startBlock from cut new (now (tables .entry)) ⌝ }
+{
+    if cut.block.0 != from.0 {
+        return from;
+    }
+    let at = Model::START * Model::COLUMNS + cut.column.0 as usize;
+    if tables[at] & cut.wanted == 0 {
+        return from;
+    }
+    Block(new as u16)
+}
+
 // Looks, and makes the cut of each flaw that is met before so many cuts are made.
 fn cut_on(
-    columns: usize,
-    steps: usize,
+    shape: Shape,
     spare: usize,
-    start: State,
-    needs: &StepSets,
-    lands: &StepSets,
-    goals: &ColumnSets,
-    costs: &[u16],
+    tables: &Tables,
+    costs: &Costs,
     cuts: &mut [u32],
     sets: &mut BlockSets,
     dist: &mut Distances,
     path: &mut Path,
 ) -> Ended
-    requires { ⌜ (spare < limits .blocks) × (spare * 3 ≤ length (now cuts)) × (steps ≤ length (now costs))
-        × (length (now sets) ≡ limits .blocks * limits .columns) × (length (now dist) ≡ limits .blocks) × (length (now path) ≡ limits .blocks) ⌝
-        ∗ ⌜ Ready columns steps start (now needs) (now lands) (now goals) (now costs) 0 (now cuts) (now sets) ⌝ }
-    ensures { λ r. ⌜ ((t : Task) → Given t columns steps start (now (needs .entry)) (now (lands .entry)) (now (goals .entry)) (now (costs .entry))
-        → Made t columns 0 (now (cuts .entry)) (now (sets .entry))
-        → RunEnds (refine t spare []) r steps (now (cuts .entry)) (now (cuts .exit)) (now (path .exit))) ⌝
+    requires { ⌜ (spare < limits .blocks) × (spare * 3 ≤ length (now cuts)) ⌝
+        ∗ ⌜ (length (now sets) ≡ blockPlaces) × (length (now dist) ≡ limits .blocks) × (length (now path) ≡ limits .blocks) ⌝
+        ∗ ⌜ First shape (now tables) (now costs) (now sets) ⌝ }
+    ensures { λ r. ⌜ ((t : Task) → Tabled t shape (now (tables .entry)) (now (costs .entry))
+        → Uncut t shape (now (sets .entry))
+        → RunEnds (refine t spare []) r (shape .steps) (now (cuts .entry)) (now (cuts .exit)) (now (path .exit))) ⌝
         ∗ ⌜ length (now (path .exit)) ≡ limits .blocks ⌝ }
 {
+    let columns = shape.columns;
+    let mut from = Block(0);
     let mut made: usize = 0;
     loop {
-        let seen = look(
-            columns,
-            steps,
-            made,
-            start,
-            needs,
-            lands,
-            goals,
-            costs,
-            cuts,
-            sets,
-            dist,
-            path,
-        );
+        let seen = look(shape, made + 1, from, tables, costs, sets, dist, path);
         if spare <= made {
             return end(seen, made);
         }
@@ -196,41 +159,29 @@ fn cut_on(
         };
         put_cut(made, cut, cuts);
         make_cut(columns, made + 1, cut, sets);
+        from = start_block(from, cut, made + 1, tables);
         made += 1;
     }
 }
 
-// A run with room for so many blocks besides the first: its cuts go into the list, and the steps of its plan into the path.
-pub fn refine(model: Model, spare: usize, cuts: &mut [u32], path: &mut Path) -> Ended
-    requires { ⌜ Accepted (taskOf model) × (spare < limits .blocks) × (spare * 3 ≤ length (now cuts)) × (length (now path) ≡ limits .blocks) ⌝ }
-    ensures { λ r. ⌜ RunEnds (refine (taskOf model) spare []) r (model .steps) (now (cuts .entry)) (now (cuts .exit)) (now (path .exit)) ⌝
+// A run with room for so many blocks besides the first, which stands in the array: its cuts go into the list, and the steps of its plan into the path.
+pub fn refine(
+    shape: Shape,
+    spare: usize,
+    tables: &Tables,
+    costs: &Costs,
+    sets: &mut BlockSets,
+    cuts: &mut [u32],
+    path: &mut Path,
+) -> Ended
+    requires { ⌜ (spare < limits .blocks) × (spare * 3 ≤ length (now cuts)) ⌝
+        ∗ ⌜ (length (now sets) ≡ blockPlaces) × (length (now path) ≡ limits .blocks) ⌝
+        ∗ ⌜ First shape (now tables) (now costs) (now sets) ⌝ }
+    ensures { λ r. ⌜ ((t : Task) → Tabled t shape (now (tables .entry)) (now (costs .entry))
+        → Uncut t shape (now (sets .entry))
+        → RunEnds (refine t spare []) r (shape .steps) (now (cuts .entry)) (now (cuts .exit)) (now (path .exit))) ⌝
         ∗ ⌜ length (now (path .exit)) ≡ limits .blocks ⌝ }
 {
-    let columns = model.columns;
-    let steps = model.steps;
-    let start = model.start;
-    let costs = model.cost;
-    let mut needs = [0u32; Model::STEPS * Model::COLUMNS];
-    fill_needs(model, &mut needs);
-    let mut lands = [0u32; Model::STEPS * Model::COLUMNS];
-    fill_lands(model, &mut lands);
-    let mut goals = [0u32; Model::COLUMNS];
-    fill_goals(model, &mut goals);
-    let mut sets = [0u32; Model::BLOCKS * Model::COLUMNS];
-    fill_first(model, &mut sets);
     let mut dist = [0u64; Model::BLOCKS];
-    cut_on(
-        columns,
-        steps,
-        spare,
-        start,
-        &needs,
-        &lands,
-        &goals,
-        &costs,
-        cuts,
-        &mut sets,
-        &mut dist,
-        path,
-    )
+    cut_on(shape, spare, tables, costs, cuts, sets, &mut dist, path)
 }

@@ -1,4 +1,3 @@
 pub mod JoinLaws
 pub mod ReplayingLaws
 pub mod RowsLaws
-pub mod TabledLaws

@@ -1,5 +1,5 @@
--- A replay as code makes it: the model in tables, and what is left to judge after the sheets.
-use Prim.Native.Nat.{ℕ, _*_, _≤_}
+-- A replay as code makes it: accepted sheets, and what is left to judge after them.
+use Prim.Native.Nat.{ℕ, _*_}
 use mathlib.Core.Path.{_≡_}
 use mathlib.Core.Bool.{not}
 use mathlib.Core.List.{List, [], _∷_}
@@ -7,28 +7,16 @@ use lib.Dec.{eqb}
 use lib.IntN.{ℤ}
 use lib.ListN.{length}
 use Rattle.task.specs.Loops.{over}
-use Rattle.task.specs.Sizes.{limits}
-use Rattle.task.specs.Task.{Task, columnCount, start}
+use Rattle.task.specs.Task.{Task, columnCount}
 use Rattle.fields.specs.Judging.{check, refusal, unlessRefused}
 use Rattle.sheets.specs.ModelSheet.{judgeSheet}
 use Rattle.sheets.specs.Holding.{taskOn}
 use Rattle.sheets.specs.LentTables.{tooFew}
 use Rattle.blocks.specs.declared.Cut.{Cut}
-use Rattle.blocks.specs.Masks.{Tables, Stands}
 use Rattle.cut_sheets.specs.CutPart.{cutOn, countOf, judgeCuts}
 use Rattle.cut_sheets.specs.Judged.{Made}
 use Rattle.replay.specs.declared.Replayed.the-variants.{Rows}
 use Rattle.replay.specs.Replay.{badRow, rowList, refused, ReplayOutcome, replayOutcome}
-use Rattle.replaying.specs.declared.Frame.{Frame}
-
--- the model of a sheet in tables, and its start as it stands
-pub record Tabled (t : Task) (f : Frame) (needs lands goals here : List ℕ) : Type 0 where
-  pub tables : Tables t (f .columns) (f .steps) needs lands goals (f .costs)
-  pub stands : Stands t (start t) here
-  pub narrow : f .columns ≤ limits .columns
-  pub few : f .steps ≤ limits .steps
-  pub long : length here ≡ limits .columns
-  pub costs-long : length (f .costs) ≡ limits .steps
 
 -- accepted sheets: the model's, and the part with the cuts, whose blocks stand in the array
 pub record Sheets (model part sets : List ℕ) : Type 0 where

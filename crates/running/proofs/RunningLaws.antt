@@ -1,25 +1,24 @@
 -- Laws for the code of a run as a caller has it: each refusal is the one that the definition gives, and what is left is the run.
 use Prim.Native.Nat.{ℕ, _-_, _*_, _≤_, _<_}
 use native.Mathlib.Omega.{arith}
-use mathlib.Core.Path.{_≡_, sym, ap, ap₂, _∙_}
-use mathlib.Core.List.{List, []}
+use mathlib.Core.Path.{_≡_, refl, sym, ap, ap₂, _∙_}
+use mathlib.Core.List.{List, [], _∷_}
 use lib.Dec.{ltb}
 use lib.ListN.{length, getD}
 use borrow.Author.Tests.{lt-ltb, le-ltb, ltb-false, eq-eqb}
-use Rattle.task.specs.declared.Model.{Model}
 use Rattle.task.specs.declared.Step.{Step}
 use Rattle.task.specs.Loops.{over}
-use Rattle.task.specs.Sizes.{limits}
-use Rattle.task.specs.Tables.{taskOf}
-use Rattle.task.specs.Task.{Task, step, costs}
+use Rattle.task.specs.Sizes.{limits, blockPlaces}
+use Rattle.task.specs.Task.{Task, step, block, costOf, costs}
 use Rattle.task.proofs.LoopLaws.{tab-length}
-use Rattle.task.proofs.TableLaws.{cost-of, steps-of}
 use Rattle.fields.specs.Judging.{outside, refusal}
 use Rattle.fields.proofs.JudgingLaws.{stop, go, applies, passes, passed, no-checks, refusal-append, below-low, above-high, inside, inside-means, refused-is}
-use Rattle.sheets.specs.ModelSheet.{sheetChecks, judgeSheet}
-use Rattle.unpack.specs.declared.Read.{Read}
-use Rattle.unpack.specs.Unpacking.{unpacked}
-use Rattle.unpack.proofs.GivenLaws.{read-code, given-task, given-accepted}
+use Rattle.sheets.specs.ModelSheet.{columnsOf, sheetChecks, judgeSheet}
+use Rattle.sheets.specs.Holding.{taskOn}
+use Rattle.blocks.specs.Blocks.{whole}
+use Rattle.preparing.specs.declared.Frame.{Frame}
+use Rattle.preparing.specs.Preparing.{Prepared}
+use Rattle.preparing.proofs.WholeLaws.{columns-on, whole-made, whole-long}
 use Rattle.run.specs.Run as run
 use Rattle.run.specs.Run.{plan, refine, rows, rowsOf}
 use Rattle.run.proofs.LengthLaws.{plan-short}
@@ -27,7 +26,8 @@ use Rattle.walk.specs.Walking.{stepIn, pathSteps}
 use Rattle.refining.specs.declared.Ended.{Ended}
 use Rattle.refining.specs.declared.Ended.the-variants as ended
 use Rattle.run.specs.Listing.{listed, rowPlace}
-use Rattle.refining.specs.Refining.{answerOf, blocksTold, KnownEnd, StepsFit, RunEnds}
+use Rattle.refining.specs.Refining.{Parted, First, answerOf, blocksTold, KnownEnd, StepsFit, RunEnds}
+use Rattle.refining.proofs.ModelLaws.{first-parted}
 use Rattle.running.specs.declared.Answer.{Answer}
 use Rattle.running.specs.declared.Answer.the-variants.{Plan, Refused}
 use Rattle.running.specs.Running.{PathCosts, roomChecks, runChecks, returned, runOutcome, running, Runs}
@@ -100,11 +100,11 @@ steps-fit t room long path (ended.Plan n b) h short r = let p = short (pathSteps
 steps-fit t room long path (ended.NoPlan b) h short r = tt
 steps-fit t room long path (ended.Open e b) h short r = tt
 
-costed : (m : Model) (path : List ℕ) (o : Ended) → KnownEnd (m .steps) o path → PathCosts (taskOf m) o path (m .cost)
+costed : (t : Task) (steps : ℕ) (cost path : List ℕ) → ((s : Step) → s .0 < steps → costOf t s ≡ getD cost (s .0) 0) → (o : Ended) → KnownEnd steps o path → PathCosts t o path cost
 unfolding PathCosts stepIn KnownEnd
-costed m path (ended.Plan n b) p = λ i h. cost-of m (step (getD path i 0)) (p .1 i h)
-costed m path (ended.NoPlan b) p = tt
-costed m path (ended.Open e b) p = tt
+costed t steps cost path f (ended.Plan n b) p = λ i h. f (step (getD path i 0)) (p .1 i h)
+costed t steps cost path f (ended.NoPlan b) p = tt
+costed t steps cost path f (ended.Open e b) p = tt
 
 -- the answer of a plan whose rows were put
 pub plan-told : (t : Task) (n blocks : ℕ) (path list₀ : List ℕ) {c : ℕ} {list : List ℕ} → (c ≡ costs t (pathSteps n path)) × (list ≡ over (listed rowPlace (rows t (pathSteps n path))) list₀)
@@ -117,20 +117,23 @@ module _ (s : List ℕ) (room : ℕ) (cuts rows : List ℕ) where
   unfolding running
   refusing e z = refused-is (λ n. runOutcome (Refused n) cuts rows) (runChecks s room cuts rows) _ e z
 
-  module _ {read : Read} (e : read ≡ unpacked s) where
-    code : read .code ≡ refusal (sheetChecks s)
+  module _ {code : ℕ} (e : code ≡ judgeSheet s) where
+    sheet : code ≡ refusal (sheetChecks s)
     unfolding judgeSheet
-    code = read-code s e
+    sheet = e
 
     -- a refusal of the sheet
-    pub sheet-refused : (read .code ≡ 0 → ⊥) → Runs s room cuts rows (Refused (read .code)) cuts rows
+    pub sheet-refused : (code ≡ 0 → ⊥) → Runs s room cuts rows (Refused code) cuts rows
     unfolding runChecks
-    sheet-refused z = refusing (code ∙ sym (refusal-append (sheetChecks s) _ ∙ stop (refusal (sheetChecks s)) _ (λ q. z (code ∙ q)))) z
+    sheet-refused z = refusing (sheet ∙ sym (refusal-append (sheetChecks s) _ ∙ stop (refusal (sheetChecks s)) _ (λ q. z (sheet ∙ q)))) z
 
-    module _ (z : read .code ≡ 0) where
+    module _ (z : code ≡ 0) where
+      pub fine : judgeSheet s ≡ 0
+      fine = sym e ∙ z
+
       after : {x : ℕ} → x ≡ refusal (roomChecks room cuts rows) → x ≡ refusal (runChecks s room cuts rows)
       unfolding runChecks
-      after h = h ∙ sym (refusal-append (sheetChecks s) _ ∙ go (refusal (sheetChecks s)) _ (sym code ∙ z))
+      after h = h ∙ sym (refusal-append (sheetChecks s) _ ∙ go (refusal (sheetChecks s)) _ (sym sheet ∙ z))
 
       module _ {r : ℕ} (j : r ≡ refusal (roomChecks room cuts rows)) where
         -- a refusal of the room or of the lists
@@ -142,24 +145,39 @@ module _ (s : List ℕ) (room : ℕ) (cuts rows : List ℕ) where
           fits = room-fits room cuts rows (sym j ∙ k)
 
           abbrev t : Task
-          t = taskOf (read .model)
+          t = taskOn s
 
-          module _ {o : Ended} {cuts′ path : List ℕ} (w : RunEnds (refine t (room - 1) []) o (read .model .steps) cuts cuts′ path) where
-            pub known : KnownEnd (limits .steps) o path
-            known = known-more (read .model .steps) (limits .steps) (omega (arith, given-accepted s e z .steps, steps-of (read .model))) o path (w .known)
+          module _ {f : Frame} {tables : List ℕ} (p : Prepared (taskOn s) f tables) where
+            pub columns-read : f .shape .columns ≡ columnsOf s
+            columns-read = sym (p .tabled .own .wide) ∙ columns-on s
 
-            pub room-for-steps : StepsFit o (length rows)
-            room-for-steps = steps-fit t room (length rows) path o (w .answer) (λ ss q. plan-short t (given-accepted s e z) room (fits .some) ss (unfold run.run in q)) (fits .rows-fit)
+            -- the array has block 0
+            module _ (old : List ℕ) {sets : List ℕ} (n : sets ≡ over (whole (taskOn s)) old) where
+              pub long : length old ≡ blockPlaces → length sets ≡ blockPlaces
+              long l = whole-long s columns-read fine old l n
 
-            pub path-costs : PathCosts t o path (read .model .cost)
-            path-costs = costed (read .model) path o (w .known)
+              pub parted : Parted (taskOn s) [] (f .shape .columns) 1 (block 0) sets
+              parted = first-parted (taskOn s) (p .tabled .task) (f .shape .columns) sets (whole-made s columns-read old n)
 
-            -- the run is made
-            pub ran : {a : Answer} {rows′ : List ℕ} → (a ≡ returned t (blocksTold o) (answerOf o path)) × (rows′ ≡ over (listed rowPlace (rowsOf t (answerOf o path))) rows)
-                → Runs s room cuts rows a cuts′ rows′
-            unfolding running specs.made run.run
-            ran {a} {rows′} p =
-                let q : 0 ≡ refusal (runChecks s room cuts rows) = after (sym (sym j ∙ k)) in
-                let x : a ≡ returned t (run.blockCount (refine t (room - 1) [])) (refine t (room - 1) [] .answer) = p .0 ∙ ap₂ (returned t) (w .blocks) (w .answer) in
-                let y : rows′ ≡ over (listed rowPlace (rowsOf t (refine t (room - 1) [] .answer))) rows = p .1 ∙ ap (λ (b : run.Answer). over (listed rowPlace (rowsOf t b)) rows) (w .answer) in
-                simp (eq-eqb (refusal (runChecks s room cuts rows)) 0 (sym q)) (rw (x, y, w .list) (ap (λ (u : Task). specs.made u (refine u (room - 1) []) cuts rows) (given-task s e z)))
+              pub ready : First (f .shape) tables (f .costs) sets
+              ready = record { task = taskOn s; tabled = p .tabled; parted = parted }
+
+            module _ {o : Ended} {cuts′ path : List ℕ} (w : RunEnds (refine (taskOn s) (room - 1) []) o (f .shape .steps) cuts cuts′ path) where
+              pub known : KnownEnd (limits .steps) o path
+              known = known-more (f .shape .steps) (limits .steps) (omega (arith, p .tabled .task .steps, p .tabled .own .long)) o path (w .known)
+
+              pub room-for-steps : StepsFit o (length rows)
+              room-for-steps = steps-fit t room (length rows) path o (w .answer) (λ ss q. plan-short t (p .tabled .task) room (fits .some) ss (unfold run.run in q)) (fits .rows-fit)
+
+              pub path-costs : PathCosts (taskOn s) o path (f .costs)
+              path-costs = costed (taskOn s) (f .shape .steps) (f .costs) path (p .tabled .own .cost) o (w .known)
+
+              -- the run is made
+              pub ran : {a : Answer} {rows′ : List ℕ} → (a ≡ returned (taskOn s) (blocksTold o) (answerOf o path)) × (rows′ ≡ over (listed rowPlace (rowsOf (taskOn s) (answerOf o path))) rows)
+                  → Runs s room cuts rows a cuts′ rows′
+              unfolding running specs.made run.run
+              ran {a} {rows′} q =
+                  let n : 0 ≡ refusal (runChecks s room cuts rows) = after (sym (sym j ∙ k)) in
+                  let x : a ≡ returned t (run.blockCount (refine t (room - 1) [])) (refine t (room - 1) [] .answer) = q .0 ∙ ap₂ (returned t) (w .blocks) (w .answer) in
+                  let y : rows′ ≡ over (listed rowPlace (rowsOf t (refine t (room - 1) [] .answer))) rows = q .1 ∙ ap (λ (b : run.Answer). over (listed rowPlace (rowsOf t b)) rows) (w .answer) in
+                  simp (eq-eqb (refusal (runChecks s room cuts rows)) 0 (sym n)) (rw (x, y, w .list) refl)

@@ -12,13 +12,15 @@ ghost use Rattle.walk.specs.Walking.{pathSteps};
 ghost use Rattle.refining.specs.Refining.{answerOf, blocksTold, KnownEnd, StepsFit};
 ghost use Rattle.running.specs.Running.{Costed, PathCosts, roomChecks, returned, Runs};
 ghost use Rattle.running.specs.Counts.{cutValueCount, rowCount, rowValueCount, Counted};
+use preparing::fill_whole;
+use preparing::prepare;
 use refining::Ended;
 use refining::refine;
+use sheets::judge_sheet;
 use task::Costs;
 use task::Model;
 use task::Path;
 use task::tenths;
-use unpack::unpack_model;
 
 // A plan with its cost and its number of steps, no plan, or open with the start's estimate, each with the number of blocks; or a refusal.
 pub enum Answer {
@@ -104,8 +106,7 @@ fn tell(ended: Ended, path: &Path, cost: &Costs, list: &mut [u32]) -> Answer
 pub fn run(sheet: &[u8], room: u32, cuts: &mut [u32], rows: &mut [u32]) -> Answer
     ensures { λ r. ⌜ Runs (now (sheet .entry)) room (now (cuts .entry)) (now (rows .entry)) r (now (cuts .exit)) (now (rows .exit)) ⌝ }
 {
-    let read = unpack_model(sheet);
-    let code = read.code;
+    let code = judge_sheet(sheet);
     if code != 0 {
         return Answer::Refused(code);
     }
@@ -113,13 +114,17 @@ pub fn run(sheet: &[u8], room: u32, cuts: &mut [u32], rows: &mut [u32]) -> Answe
     if r != 0 {
         return Answer::Refused(r);
     }
-    let model = read.model;
     let spare = room as usize - 1;
-    // taken before the run, so that no second model lies on the stack beside its tables
-    let cost = model.cost;
+    let mut tables = [0u32; (2 * Model::STEPS + 2) * Model::COLUMNS];
+    let frame = prepare(sheet, &mut tables);
+    let shape = frame.shape;
+    let costs = frame.costs;
+    let columns = shape.columns;
+    let mut sets = [0u32; Model::BLOCKS * Model::COLUMNS];
+    fill_whole(sheet, columns, &mut sets);
     let mut path = [0u8; Model::BLOCKS];
-    let ended = refine(model, spare, cuts, &mut path);
-    tell(ended, &path, &cost, rows)
+    let ended = refine(shape, spare, &tables, &costs, &mut sets, cuts, &mut path);
+    tell(ended, &path, &costs, rows)
 }
 
 impl Answer {

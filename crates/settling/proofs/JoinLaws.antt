@@ -15,16 +15,13 @@ use Rattle.task.specs.declared.Step.{Step}
 use Rattle.task.specs.declared.Block.{Block}
 use Rattle.task.specs.Sizes.{limits, mostSteps, mostCost, mostTenths, tenth}
 use Rattle.task.specs.Loops.{tab, over}
-use Rattle.task.specs.declared.Model.{Model}
-use Rattle.task.specs.Tables.{taskOf}
-use Rattle.task.proofs.TableLaws.{columns-of, steps-of, cost-of}
-use Rattle.task.specs.Task.{Task, Accepted, Tenths, step, block, costOf}
+use Rattle.task.specs.Task.{Task, Tenths, step, block, costOf}
 use Rattle.task.proofs.LoopLaws.{tab-length, over-length, over-at}
 use Rattle.blocks.specs.Blocks.{Blocks, leads}
 use Rattle.blocks.specs.Flat.{blocksIn}
-use Rattle.blocks.specs.Masks.{needSets, landSets, goalSets, Tables}
+use Rattle.blocks.specs.Masks.{Tables}
 use Rattle.blocks.proofs.FlatLaws.{blocks-length}
-use Rattle.blocks.proofs.MaskLaws.{leads-by, goal-by, masks-told}
+use Rattle.blocks.proofs.MaskLaws.{leads-by, goal-by}
 use Rattle.distances.specs.Distances.{Distance, Hop, AtMost, DistanceIs, leadsTo, isPath, far, farOf, plus, zeroFar, distances}
 use Rattle.settling.specs.Ways.{Path, here, step as hop, NoWorse, noWay, IsDist, AllDist}
 use Rattle.arcs.specs.Arcs.{Arc, GoalIn, costIn}
@@ -142,10 +139,6 @@ module _ (t : Task) (columns count steps : ℕ) (needs lands goals costs sets : 
       (λ (b : i < count). number-is i (getD D′ i 0) b (r .each i b) ∙ sym (over-at count f D 0 i b))
       (λ (b : count ≤ i). r .rest i b ∙ sym (over-past f D count i b))
       (below-or-not i count))
-
--- the tables of a model are those of its task
-pub model-tables : (m : Model) → Accepted (taskOf m) → Tables (taskOf m) (m .columns) (m .steps) (needSets m) (landSets m) (goalSets m) (m .cost)
-model-tables m v = record { wide = columns-of m; long = steps-of m; told = masks-told m v; cost = λ s h. cost-of m s h }
 
 -- ---- back from the numbers
 module _ (t : Task) (bs : Blocks) (cheap : (s : Step) → costOf t s ≤ mostCost) (few : length bs ≤ limits .blocks) where

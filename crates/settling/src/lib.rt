@@ -6,7 +6,7 @@ ghost use lib.ListN.{length, getD};
 ghost use Rattle.task.specs.Sizes.{limits, mostCost, tenth};
 ghost use Rattle.task.specs.Task.{Task};
 ghost use Rattle.blocks.specs.Flat.{past, rowOf, blocksIn};
-ghost use Rattle.blocks.specs.Masks.{goalBy, Tables};
+ghost use Rattle.blocks.specs.Masks.{landsIn, goalsIn, Within, TablesOf, goalBy};
 ghost use Rattle.arcs.specs.Arcs.{Arc, costIn, GoalIn};
 ghost use Rattle.arcs.specs.Words.{word, words, wordsFor, inWord, heldIn, Able, Met, Listed, Narrow, told, toldIn};
 ghost use Rattle.settling.specs.Ways.{noWay, AllDist};
@@ -24,9 +24,11 @@ use arcs::kept_word;
 use task::Block;
 use task::BlockSets;
 use task::ColumnSets;
+use task::Costs;
 use task::Distances;
 use task::Model;
-use task::StepSets;
+use task::Shape;
+use task::Tables;
 
 const NO_WAY: u64 = Model::NO_WAY as u64 * Model::TENTH;
 
@@ -37,14 +39,14 @@ fn first_value(goal: bool) -> u64
 }
 
 // The values before the first turn.
-fn start(columns: usize, count: usize, goals: &ColumnSets, sets: &BlockSets, dist: &mut Distances)
+fn start(columns: usize, count: usize, tables: &Tables, sets: &BlockSets, dist: &mut Distances)
     requires { ⌜ (columns ≤ limits .columns) × (count ≤ limits .blocks) × (length (now dist) ≡ limits .blocks) ⌝ }
-    ensures { λ _. ⌜ Started (goalBy columns (now (goals .entry)) (now (sets .entry))) count (now (dist .entry)) (now (dist .exit)) ⌝
+    ensures { λ _. ⌜ Started (goalBy columns (goalsIn (now (tables .entry))) (now (sets .entry))) count (now (dist .entry)) (now (dist .exit)) ⌝
         ∗ ⌜ length (now (dist .exit)) ≡ limits .blocks ⌝ }
 {
     let mut a: usize = 0;
     while a < count {
-        dist[a] = first_value(masks::is_goal_block(columns, Block(a as u16), goals, sets));
+        dist[a] = first_value(masks::is_goal_block(columns, Block(a as u16), tables, sets));
         a += 1;
     }
 }
@@ -104,21 +106,21 @@ fn sweep(
     s: usize,
     k: u64,
     narrow: &[usize; Model::COLUMNS],
-    lands: &StepSets,
+    tables: &Tables,
     able: &[u32; WORDS * Model::STEPS],
     meets: &[u32; Model::COLUMNS * WORDS],
     left: &[u32; WORDS],
     dist: &mut Distances,
 )
     requires { ⌜ (few ≤ limits .columns) × (used ≤ words) × (s < limits .steps) × (length (now dist) ≡ limits .blocks) ⌝ ∗ ⌜ Listed few (now narrow) ⌝ }
-    ensures { λ _. ⌜ Lowered (told few (now (narrow .entry)) (now (lands .entry)) (now (able .entry)) (now (meets .entry)) (now (left .entry)) s) k
+    ensures { λ _. ⌜ Lowered (told few (now (narrow .entry)) (landsIn (now (tables .entry))) (now (able .entry)) (now (meets .entry)) (now (left .entry)) s) k
         (used * word) (now (dist .entry)) (now (dist .exit)) ⌝
         ∗ ⌜ length (now (dist .exit)) ≡ limits .blocks ⌝ }
 {
     let mut w: usize = 0;
     while w < used {
         let first = able[w * Model::STEPS + s] & left[w];
-        let v = kept_word(few, s, w, first, narrow, lands, meets);
+        let v = kept_word(few, Model::LANDS + s, w, first, narrow, tables, meets);
         lower_word(w, v, k, dist);
         w += 1;
     }
@@ -133,7 +135,7 @@ fn lower(
     b: usize,
     k: u64,
     narrow: &[usize; Model::COLUMNS],
-    lands: &StepSets,
+    tables: &Tables,
     sets: &BlockSets,
     able: &[u32; WORDS * Model::STEPS],
     meets: &[u32; Model::COLUMNS * WORDS],
@@ -143,14 +145,14 @@ fn lower(
     requires { ⌜ (columns ≤ limits .columns) × (few ≤ limits .columns) × (used ≤ words) × (s < limits .steps) × (b < limits .blocks)
         × (length (now dist) ≡ limits .blocks) ⌝
         ∗ ⌜ Listed few (now narrow) ⌝ }
-    ensures { λ _. ⌜ Lowered (toldIn columns few (now (narrow .entry)) (now (lands .entry)) (now (sets .entry)) (now (able .entry)) (now (meets .entry))
-        (now (left .entry)) s b) k (used * word) (now (dist .entry)) (now (dist .exit)) ⌝
+    ensures { λ _. ⌜ Lowered (toldIn columns few (now (narrow .entry)) (landsIn (now (tables .entry))) (now (sets .entry)) (now (able .entry))
+        (now (meets .entry)) (now (left .entry)) s b) k (used * word) (now (dist .entry)) (now (dist .exit)) ⌝
         ∗ ⌜ length (now (dist .exit)) ≡ limits .blocks ⌝ }
 {
-    if !fits_in(columns, s, b, lands, sets) {
+    if !fits_in(columns, Model::LANDS + s, b, tables, sets) {
         return;
     }
-    sweep(few, used, s, k, narrow, lands, able, meets, left, dist);
+    sweep(few, used, s, k, narrow, tables, able, meets, left, dist);
 }
 
 // Tries every step into block b, with the tables.
@@ -161,8 +163,7 @@ fn tries(
     few: usize,
     used: usize,
     b: usize,
-    needs: &StepSets,
-    lands: &StepSets,
+    tables: &Tables,
     costs: &[u16],
     sets: &BlockSets,
     able: &[u32; WORDS * Model::STEPS],
@@ -173,12 +174,12 @@ fn tries(
 )
     requires { ⌜ (columns ≤ limits .columns) × (count ≤ limits .blocks) × (steps ≤ limits .steps) × (used ≡ wordsFor count) × (steps ≤ length (now costs))
         × (b < count) × (length (now dist) ≡ limits .blocks) × (getD (now dist) b 0 < noWay) ⌝
-        ∗ ⌜ Able columns steps (now needs) (now sets) used (now able) ⌝
+        ∗ ⌜ Able columns steps (now tables) (now sets) used (now able) ⌝
         ∗ ⌜ Met columns used (now sets) (past (now sets) (rowOf b)) (now meets) ⌝
         ∗ ⌜ Open count used (now dist) b (now left) ⌝
         ∗ ⌜ Narrow columns used (now meets) (now left) few (now narrow) ⌝ }
-    ensures { λ _. ⌜ Relaxed count (Arc columns count steps (now (needs .entry)) (now (lands .entry)) (now (sets .entry))) (costIn (now (costs .entry)))
-        (now (dist .entry)) (now (dist .exit)) b ⌝
+    ensures { λ _. ⌜ Relaxed count (Arc columns count steps (now (tables .entry)) (landsIn (now (tables .entry))) (now (sets .entry)))
+        (costIn (now (costs .entry))) (now (dist .entry)) (now (dist .exit)) b ⌝
         ∗ ⌜ length (now (dist .exit)) ≡ limits .blocks ⌝ }
 {
     let base = dist[b];
@@ -193,7 +194,7 @@ fn tries(
             b,
             k,
             narrow,
-            lands,
+            tables,
             sets,
             able,
             meets,
@@ -211,8 +212,7 @@ fn relax(
     steps: usize,
     used: usize,
     b: usize,
-    needs: &StepSets,
-    lands: &StepSets,
+    tables: &Tables,
     costs: &[u16],
     sets: &BlockSets,
     able: &[u32; WORDS * Model::STEPS],
@@ -226,11 +226,11 @@ fn relax(
     requires { ⌜ (columns ≤ limits .columns) × (count ≤ limits .blocks) × (steps ≤ limits .steps) × (used ≡ wordsFor count) × (steps ≤ length (now costs))
         × (b < count) × (length (now dist) ≡ limits .blocks) × (getD (now dist) b 0 < noWay) × (length (now held) ≡ limits .columns)
         × (length (now meets) ≡ limits .columns * words) × (length (now left) ≡ words) × (length (now narrow) ≡ limits .columns) ⌝
-        ∗ ⌜ Able columns steps (now needs) (now sets) used (now able) ⌝
+        ∗ ⌜ Able columns steps (now tables) (now sets) used (now able) ⌝
         ∗ ⌜ Met columns used (now sets) (heldIn (now held)) (now meets) ⌝
         ∗ ⌜ Settled count (now dist) (now done) b ⌝ }
-    ensures { λ _. ⌜ Relaxed count (Arc columns count steps (now (needs .entry)) (now (lands .entry)) (now (sets .entry))) (costIn (now (costs .entry)))
-        (now (dist .entry)) (now (dist .exit)) b ⌝
+    ensures { λ _. ⌜ Relaxed count (Arc columns count steps (now (tables .entry)) (landsIn (now (tables .entry))) (now (sets .entry)))
+        (costIn (now (costs .entry))) (now (dist .entry)) (now (dist .exit)) b ⌝
         ∗ ⌜ Met columns used (now (sets .entry)) (heldIn (now (held .exit))) (now (meets .exit)) ⌝
         ∗ ⌜ (length (now (dist .exit)) ≡ limits .blocks) × (length (now (held .exit)) ≡ limits .columns)
         × (length (now (meets .exit)) ≡ limits .columns * words) × (length (now (left .exit)) ≡ words) × (length (now (narrow .exit)) ≡ limits .columns) ⌝ }
@@ -245,8 +245,7 @@ fn relax(
         few,
         used,
         b,
-        needs,
-        lands,
+        tables,
         costs,
         sets,
         able,
@@ -263,9 +262,7 @@ fn settle(
     count: usize,
     steps: usize,
     used: usize,
-    needs: &StepSets,
-    lands: &StepSets,
-    goals: &ColumnSets,
+    tables: &Tables,
     costs: &[u16],
     sets: &BlockSets,
     able: &[u32; WORDS * Model::STEPS],
@@ -279,12 +276,12 @@ fn settle(
     requires { ⌜ (columns ≤ limits .columns) × (count ≤ limits .blocks) × (steps ≤ limits .steps) × (used ≡ wordsFor count) × (steps ≤ length (now costs))
         × (length (now dist) ≡ limits .blocks) × (length (now held) ≡ limits .columns) × (length (now meets) ≡ limits .columns * words)
         × (length (now left) ≡ words) × (length (now narrow) ≡ limits .columns) × (length (now done) ≡ limits .blocks) ⌝
-        ∗ ⌜ Able columns steps (now needs) (now sets) used (now able) ⌝
+        ∗ ⌜ Able columns steps (now tables) (now sets) used (now able) ⌝
         ∗ ⌜ Met columns used (now sets) (heldIn (now held)) (now meets) ⌝
-        ∗ ⌜ Started (goalBy columns (now goals) (now sets)) count (now dist) (now dist) ⌝
+        ∗ ⌜ Started (goalBy columns (goalsIn (now tables)) (now sets)) count (now dist) (now dist) ⌝
         ∗ ⌜ ((a : ℕ) → getD (now done) a 0 ≡ 0) ⌝ }
-    ensures { λ _. ⌜ AllDist (Arc columns count steps (now (needs .entry)) (now (lands .entry)) (now (sets .entry)))
-        (GoalIn columns (now (goals .entry)) (now (sets .entry))) (costIn (now (costs .entry))) count (now (dist .entry)) (now (dist .exit)) ⌝
+    ensures { λ _. ⌜ AllDist (Arc columns count steps (now (tables .entry)) (landsIn (now (tables .entry))) (now (sets .entry)))
+        (GoalIn columns (goalsIn (now (tables .entry))) (now (sets .entry))) (costIn (now (costs .entry))) count (now (dist .entry)) (now (dist .exit)) ⌝
         ∗ ⌜ length (now (dist .exit)) ≡ limits .blocks ⌝ }
 {
     loop {
@@ -299,8 +296,7 @@ fn settle(
             steps,
             used,
             b,
-            needs,
-            lands,
+            tables,
             costs,
             sets,
             able,
@@ -316,22 +312,20 @@ fn settle(
 
 // Works out the distance of every block. Places past the last block stay as they are.
 pub fn fill_distances(
-    columns: usize,
-    steps: usize,
+    shape: Shape,
     count: usize,
-    needs: &StepSets,
-    lands: &StepSets,
-    goals: &ColumnSets,
-    costs: &[u16],
+    tables: &Tables,
+    costs: &Costs,
     sets: &BlockSets,
     dist: &mut Distances,
 )
-    requires { ⌜ (columns ≤ limits .columns) × (steps ≤ limits .steps) × (steps ≤ length (now costs)) × (count ≤ limits .blocks)
-        × (length (now dist) ≡ limits .blocks) ⌝ }
-    ensures { λ _. ⌜ ((t : Task) → Tables t columns steps (now (needs .entry)) (now (lands .entry)) (now (goals .entry)) (now (costs .entry))
-        → now (dist .exit) ≡ codedOver t (blocksIn columns count (now (sets .entry))) count (now (dist .entry))) ⌝
+    requires { ⌜ Within shape × (count ≤ limits .blocks) × (length (now dist) ≡ limits .blocks) ⌝ }
+    ensures { λ _. ⌜ ((t : Task) → TablesOf t shape (now (tables .entry)) (now (costs .entry))
+        → now (dist .exit) ≡ codedOver t (blocksIn (shape .columns) count (now (sets .entry))) count (now (dist .entry))) ⌝
         ∗ ⌜ length (now (dist .exit)) ≡ limits .blocks ⌝ }
 {
+    let columns = shape.columns;
+    let steps = shape.steps;
     let mut able = [0u32; WORDS * Model::STEPS];
     let mut held = [0u32; Model::COLUMNS];
     let mut meets = [0u32; Model::COLUMNS * WORDS];
@@ -339,16 +333,14 @@ pub fn fill_distances(
     let mut narrow = [0usize; Model::COLUMNS];
     let mut done = [0u8; Model::BLOCKS];
     let used = (count + (WORD - 1)) / WORD;
-    fill_able(columns, steps, used, needs, sets, &mut able);
-    start(columns, count, goals, sets, dist);
+    fill_able(columns, steps, used, tables, sets, &mut able);
+    start(columns, count, tables, sets, dist);
     settle(
         columns,
         count,
         steps,
         used,
-        needs,
-        lands,
-        goals,
+        tables,
         costs,
         sets,
         &able,

@@ -79,7 +79,9 @@ fillPart bits fill = entry (fillBits bits) fill 6 (outside 0 0 (fill .value)) �
 
 -- the whole sheet of n columns and m steps
 unfoldable pub fieldsPart : Source → ℕ → ℕ → List Entry
-fieldsPart p n m = headerPart (p .form) (p .columns) (p .steps) ++ (each n (columnPart (p .column)) ++ (each m (stepPart (p .column) (p .cost) (p .marks) n) ++ fillPart (modelBits n m) (p .fill)))
+fieldsPart p n m =
+    headerPart (p .form) (p .columns) (p .steps)
+    ++ (each n (columnPart (p .column)) ++ (each m (stepPart (p .column) (p .cost) (p .marks) n) ++ fillPart (modelBits n m) (p .fill)))
 
 -- the counts that the fields say, and the whole sheet by them
 abbrev pub columnsIn : Source → ℕ

@@ -15,19 +15,20 @@ use Rattle.task.specs.declared.Position.{Position}
 use Rattle.task.specs.declared.Step.{Step}
 use Rattle.task.specs.declared.Block.{Block}
 use Rattle.task.specs.Loops.{when}
+use Rattle.task.specs.Sizes.{limits}
 use Rattle.task.specs.Task.{Task, State, column, position, at, columnCount, stepCount, sizeOf, needAt, effectAt, goalAt, meets, changed, isState, eachColumn, canTake, taken, isGoal}
 use Rattle.task.proofs.LoopLaws.{true-or-false, all-ext, tab-at, over-at, first-ext}
 use Rattle.task.proofs.TaskLaws.{column-passes, per-at, position-below, taken-at}
 use Rattle.blocks.specs.Blocks.{PositionSet, holds, only, common, isEmpty, setAt, blockAt, goalIn, inBlock}
 use Rattle.blocks.specs.Flat.{past, rowOf, blocksIn}
-use Rattle.blocks.specs.Masks.{wants, landing, lies, allLie, Told, Stands}
+use Rattle.blocks.specs.Masks.{wants, landing, lies, allLie, Told, Stands, rowsFrom}
 use Rattle.blocks.proofs.SetLaws.{holds-only, holds-every, in-common, common-held}
 use Rattle.blocks.proofs.PartLaws.{Parts, same-or-not}
 use Rattle.blocks.proofs.FlatLaws.{past-start, blocks-length, block-at, set-at}
-use Rattle.blocks.proofs.MaskLaws.{none-empty, only-some, lies-goal}
+use Rattle.blocks.proofs.MaskLaws.{none-empty, only-some, lies-goal, from-at}
 use Rattle.run.specs.Run.{Wanted, wantedAt, allowed, backAt, goalWanted, needWanted, backWanted, cutColumn, cutFor}
 use Rattle.run.proofs.FlawLaws.{Flaw, cut-column}
-use Rattle.standing.specs.Standing.{landed, backSet, isOff, takesBy, goalAtEnd, landedAt, landsBy, takenBy, needRow, backRow, offAt, lowestOff, cutBy}
+use Rattle.standing.specs.Standing.{landed, backSet, isOff, takesBy, goalAtEnd, landedAt, landsBy, takenBy, backRow, offAt, lowestOff, cutBy}
 use Rattle.standing.specs.Standing as standing
 
 -- ---- one column
@@ -127,7 +128,7 @@ module _ (t : Task) (columns count : ℕ) (needs lands goals sets : List ℕ) (t
     stands-taken j k = over-at columns (landedAt lands here (s .0)) here 0 (j .0) (rw (← wide) k) ∙ landed-is j k
 
   -- ---- the cut
-  module _ (good : Parts t (blocksIn columns count sets)) (is : isState t x ≡ true) (narrow : columns ≤ 16) where
+  module _ (good : Parts t (blocksIn columns count sets)) (is : isState t x ≡ true) (narrow : columns ≤ limits .columns) where
     AllCodes : List ℕ → Wanted → Type 0
     AllCodes wanted w = (j : Column) → j .0 < columnCount t → Codes (getD wanted (j .0) 0) (wantedAt w j) (at x j)
 
@@ -164,12 +165,12 @@ module _ (t : Task) (columns count : ℕ) (needs lands goals sets : List ℕ) (t
         (λ j k. rw (told .goal j k, per-at t (λ j. allowed (sizeOf t j) (goalAt t j)) 0 j k) (need-codes (sizeOf t j) (goalAt t j) (at x j) (position-below t x is j k)))
 
     pub need-cut : (a : Block) (s : Step) → s .0 < stepCount t → Flaw t (blocksIn columns count sets) good a x (needWanted t s)
-        → cutBy columns sets here a (needRow needs (s .0)) ≡ cutFor t (blocksIn columns count sets) a x (needWanted t s)
-    unfolding AllCodes wantedAt needWanted needRow
+        → cutBy columns sets here a (rowsFrom (s .0) needs) ≡ cutFor t (blocksIn columns count sets) a x (needWanted t s)
+    unfolding AllCodes wantedAt needWanted
     need-cut a s hs f =
-        cut-is a (needRow needs (s .0)) (needWanted t s) f
+        cut-is a (rowsFrom (s .0) needs) (needWanted t s) f
         (λ j k.
-        rw (tab-at 16 (past needs (rowOf (s .0))) 0 (j .0) (omega arith), told .need s j hs k, per-at t (λ j. allowed (sizeOf t j) (needAt t s j)) 0 j k)
+        rw (from-at (s .0) needs (j .0), told .need s j hs k, per-at t (λ j. allowed (sizeOf t j) (needAt t s j)) 0 j k)
         (need-codes (sizeOf t j) (needAt t s j) (at x j) (position-below t x is j k)))
 
     pub back-cut : (a : Block) (s : Step) (b : Block) → s .0 < stepCount t → b .0 < count → Flaw t (blocksIn columns count sets) good a x (backWanted t s (blockAt (blocksIn columns count sets) b))
@@ -181,5 +182,5 @@ module _ (t : Task) (columns count : ℕ) (needs lands goals sets : List ℕ) (t
         let set : setAt (blockAt (blocksIn columns count sets) b) j ≡ past sets (rowOf (b .0)) (j .0) =
         rw (block-at columns count sets b hb) (set-at columns sets (b .0) j (rw (← wide) k)) in
         let full : isEmpty (past sets (rowOf (b .0)) (j .0)) ≡ false = rw set at (good .shaped b (rw (blocks-length columns count sets) hb) .full j k) in
-        rw (tab-at 16 (standing.backAt needs lands sets (s .0) (b .0)) 0 (j .0) (omega arith), told .need s j hs k, told .land s j hs k, per-at t (λ j. backAt (sizeOf t j) (needAt t s j) (effectAt t s j) (setAt (blockAt (blocksIn columns count sets) b) j)) 0 j k, set)
+        rw (tab-at (limits .columns) (standing.backAt needs lands sets (s .0) (b .0)) 0 (j .0) (omega arith), told .need s j hs k, told .land s j hs k, per-at t (λ j. backAt (sizeOf t j) (needAt t s j) (effectAt t s j) (setAt (blockAt (blocksIn columns count sets) b) j)) 0 j k, set)
         (back-codes (sizeOf t j) (needAt t s j) (effectAt t s j) (past sets (rowOf (b .0)) (j .0)) (at x j) (position-below t x is j k) full))

@@ -8,7 +8,7 @@ use lib.ListN.{getD}
 use Rattle.task.specs.declared.Column.{Column}
 use Rattle.task.specs.declared.Block.{Block}
 use Rattle.task.specs.Loops.{all, first, when, tab, over}
-use Rattle.task.specs.Sizes.{limits}
+use Rattle.task.specs.Sizes.{limits, startRow}
 use Rattle.task.specs.Task.{column}
 use Rattle.blocks.specs.declared.Cut.{Cut}
 use Rattle.blocks.specs.Blocks.{PositionSet, common, isEmpty}
@@ -31,6 +31,10 @@ isOff wanted here = not (isEmpty wanted) && isEmpty (common here wanted)
 
 -- ---- a row
 
+-- the start as it stands
+unfoldable pub atStart : List ℕ → List PositionSet
+atStart tables = tab (limits .columns) (past tables (rowOf startRow))
+
 unfoldable pub takesBy : ℕ → List ℕ → List ℕ → ℕ → Bool
 takesBy columns needs here s = allLie columns (rowOf s) 0 needs here
 
@@ -46,10 +50,7 @@ landsBy columns lands sets here s b = all columns (λ j. not (isEmpty (common (l
 unfoldable pub takenBy : ℕ → List ℕ → List ℕ → ℕ → List ℕ
 takenBy columns lands here s = over (tab columns (landedAt lands here s)) here
 
--- the wanted sets of a need flaw, and of a divergence flaw; those of a goal flaw are the goals
-unfoldable pub needRow : List ℕ → ℕ → List PositionSet
-needRow needs s = tab (limits .columns) (past needs (rowOf s))
-
+-- the wanted sets of a divergence flaw; those of a need flaw are the needs, those of a goal flaw the goals
 unfoldable pub backAt : List ℕ → List ℕ → List ℕ → ℕ → ℕ → ℕ → PositionSet
 backAt needs lands sets s b j = backSet (past needs (rowOf s) j) (past lands (rowOf s) j) (past sets (rowOf b) j)
 

@@ -1,6 +1,6 @@
 -- 01, "Sizes", and the length of a log in order 7 of 02. The limits belong to the model: this is the definitions' one copy of each number, and `Model::limits`
 -- returns it. What follows from them has a name here, so that a number is nowhere written a second time.
-use Prim.Native.Nat.{ℕ, _-_, _*_}
+use Prim.Native.Nat.{ℕ, _+_, _-_, _*_}
 use Rattle.task.specs.declared.Limits.{Limits}
 
 abbrev pub limits : Limits
@@ -20,6 +20,19 @@ stepPlaces = limits .steps * limits .columns
 
 abbrev pub blockPlaces : ℕ
 blockPlaces = limits .blocks * limits .columns
+
+-- the rows of a task's tables after those of the steps' needs: the first landing, the goal, the start; and all their places
+abbrev pub landsRow : ℕ
+landsRow = limits .steps
+
+abbrev pub goalRow : ℕ
+goalRow = 2 * limits .steps
+
+abbrev pub startRow : ℕ
+startRow = 2 * limits .steps + 1
+
+abbrev pub tablePlaces : ℕ
+tablePlaces = (2 * limits .steps + 2) * limits .columns
 
 -- what a step costs is two bytes on the sheet
 abbrev pub mostCost : ℕ

@@ -43,6 +43,12 @@ pub struct Model {
     pub effect: [Mark; Model::STEPS * Model::COLUMNS],
 }
 
+// How many columns and steps a model has.
+pub struct Shape {
+    pub columns: usize,
+    pub steps: usize,
+}
+
 // A state: the position of each column, and places past the model's columns.
 pub type State = [Position; Model::COLUMNS];
 
@@ -52,10 +58,11 @@ pub type Steps = [Step; Model::BLOCKS - 1];
 // A set of positions for each column: a goal, a state as it stands, what is wanted of one.
 pub type ColumnSets = [u32; Model::COLUMNS];
 
-// The same for each step, and for each block.
-pub type StepSets = [u32; Model::STEPS * Model::COLUMNS];
-
+// The same for each block.
 pub type BlockSets = [u32; Model::BLOCKS * Model::COLUMNS];
+
+// The tables of a task, row by row: what each step needs, where each step lands, the goal, and the start as it stands.
+pub type Tables = [u32; (2 * Model::STEPS + 2) * Model::COLUMNS];
 
 // What each step costs.
 pub type Costs = [u16; Model::STEPS];
@@ -82,6 +89,13 @@ impl Model {
     pub const LOG: usize = 255;
 
     pub const NO_WAY: u32 = 16777215;
+
+    // The rows of a task's tables after those of the steps' needs: the first landing, the goal, the start.
+    pub const LANDS: usize = Model::STEPS;
+
+    pub const GOAL: usize = 2 * Model::STEPS;
+
+    pub const START: usize = 2 * Model::STEPS + 1;
 
     // A tenth in a distance that is one number: the steps are counted below it.
     pub const TENTH: u64 = 65536;

@@ -13,13 +13,14 @@ use lib.ListN.{length, getD}
 use borrow.Author.Tests.{eq-eqb, ne-eqb, ltb-true, ltb-false, not-true}
 use Rattle.task.specs.declared.Step.{Step}
 use Rattle.task.specs.declared.Block.{Block}
+use Rattle.task.specs.declared.Shape.{Shape}
 use Rattle.task.specs.Loops.{first, when}
 use Rattle.task.specs.Task.{Task, Accepted, step, block, costOf}
 use Rattle.task.specs.Sizes.{limits, mostSteps, mostCost, mostTenths, tenth}
 use Rattle.task.proofs.LoopLaws.{and-left, true-or-false, below-suc, all-false, all-fails, first-some, when-some, first-empty, first-ext, first-here}
 use Rattle.blocks.specs.Blocks.{Blocks}
 use Rattle.blocks.specs.Flat.{blocksIn}
-use Rattle.blocks.specs.Masks.{allLie, passes, leadsBy, Tables}
+use Rattle.blocks.specs.Masks.{allLie, passes, leadsBy, Tables, TablesOf, landsIn, goalsIn}
 use Rattle.blocks.proofs.FlatLaws.{blocks-length}
 use Rattle.blocks.proofs.MaskLaws.{leads-by}
 use Rattle.blocks.proofs.PartLaws.{same-or-not}
@@ -30,7 +31,7 @@ use Rattle.settling.specs.Coded.{coded, codedAt}
 use Rattle.settling.proofs.JoinLaws.{far-small}
 use Rattle.run.specs.Run.{keeps, nextHop}
 use Rattle.trace.specs.declared.Next.{Next}
-use Rattle.trace.specs.Hops.{keepsIn, fitsBy, mayTake, hop, nextIn, nextOf, nextBy, hopOf, Holds, NextIs}
+use Rattle.trace.specs.Hops.{keepsIn, fitsBy, mayTake, hop, nextIn, nextOf, nextBy, nextIs, hopOf, Holds, NextIs}
 
 -- the two loops
 module _ (fits : ℕ → ℕ → Bool) where
@@ -175,9 +176,10 @@ module _ (t : Task) (columns steps count : ℕ) (needs lands goals costs sets di
       (first-ext steps _ _ (λ s hs. first-ext count _ _ (λ b hb. ap (λ (x : Bool). when x (hop s b)) (fits-same a d ha e s b hs hb))))
 
 -- what the search answers, of the tables and of any task whose tables they are
-pub answers : (columns steps count : ℕ) (needs lands costs sets dist : List ℕ) (a : Block) (r : Next) → count ≤ limits .blocks → a .0 < count
-    → hopOf r ≡ nextBy steps count (fitsBy columns needs lands costs sets dist (a .0))
-    → (hopOf r ≡ nextBy steps count (fitsBy columns needs lands costs sets dist (a .0)))
-    × ((t : Task) (goals : List ℕ) → Accepted t → Tables t columns steps needs lands goals costs → Holds (distances t (blocksIn columns count sets)) count dist → NextIs t (blocksIn columns count sets) a r)
+pub answers : (f : Shape) (count : ℕ) (tables costs sets dist : List ℕ) (a : Block) (r : Next) → count ≤ limits .blocks → a .0 < count
+    → hopOf r ≡ nextBy (f .steps) count (fitsBy (f .columns) tables (landsIn tables) costs sets dist (a .0))
+    → (hopOf r ≡ nextIs f count tables costs sets dist (a .0))
+    × ((t : Task) → Accepted t → TablesOf t f tables costs → Holds (distances t (blocksIn (f .columns) count sets)) count dist → NextIs t (blocksIn (f .columns) count sets) a r)
 unfolding NextIs
-answers columns steps count needs lands costs sets dist a r few h e = (e, (λ t goals v tables holds d q. e ∙ next-is t columns steps count needs lands goals costs sets dist tables (v .tenths) few holds a d h q))
+answers f count tables costs sets dist a r few h e =
+    (e, (λ t v own holds d q. e ∙ next-is t (f .columns) (f .steps) count tables (landsIn tables) (goalsIn tables) costs sets dist own (v .tenths) few holds a d h q))

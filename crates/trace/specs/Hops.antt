@@ -8,10 +8,11 @@ use lib.Dec.{eqb, ltb}
 use lib.ListN.{getD}
 use Rattle.task.specs.Loops.{first, when}
 use Rattle.task.specs.declared.Block.{Block}
+use Rattle.task.specs.declared.Shape.{Shape}
 use Rattle.task.specs.Task.{Task, step, block}
 use Rattle.task.specs.Sizes.{tenth}
 use Rattle.blocks.specs.Blocks.{Blocks}
-use Rattle.blocks.specs.Masks.{leadsBy}
+use Rattle.blocks.specs.Masks.{landsIn, leadsBy}
 use Rattle.distances.specs.Distances.{Distance, Hop, Table, farOf, distances}
 use Rattle.arcs.specs.Arcs.{fitsIn}
 use Rattle.settling.specs.Coded.{codedAt}
@@ -44,6 +45,10 @@ nextOf count fits s = first count (nextIn fits s)
 -- the lowest step and, for that step, the lowest block
 unfoldable pub nextBy : ℕ → ℕ → (ℕ → ℕ → Bool) → Option Hop
 nextBy steps count fits = first steps (nextOf count fits)
+
+-- the same on the tables in one array
+abbrev pub nextIs : Shape → ℕ → (tables costs sets dist : List ℕ) → ℕ → Option Hop
+nextIs f count tables costs sets dist a = nextBy (f .steps) count (fitsBy (f .columns) tables (landsIn tables) costs sets dist a)
 
 -- an answer's meaning
 unfoldable pub hopOf : Next → Option Hop

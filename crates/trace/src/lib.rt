@@ -1,23 +1,24 @@
 // The trace, hop by hop: the next hop of a block, found on the numbers of the distances.
 ghost use mathlib.Core.Path.{_≡_};
-ghost use mathlib.Core.List.{List};
 ghost use mathlib.Core.Bool.{cond, _&&_};
 ghost use Prim.Native.Nat.{ℕ, _+_, _-_, _*_, _<_, _≤_};
 ghost use lib.Dec.{eqb};
-ghost use lib.ListN.{length, getD};
+ghost use lib.ListN.{getD};
 ghost use Rattle.task.specs.Sizes.{limits, tenth};
 ghost use Rattle.task.specs.Task.{Task, Accepted};
 ghost use Rattle.blocks.specs.Flat.{blocksIn};
-ghost use Rattle.blocks.specs.Masks.{leadsBy, Tables};
+ghost use Rattle.blocks.specs.Masks.{landsIn, Within, TablesOf, leadsBy};
 ghost use Rattle.distances.specs.Distances.{distances};
-ghost use Rattle.trace.specs.Hops.{fitsBy, mayTake, nextBy, hopOf, Holds, NextIs};
+ghost use Rattle.trace.specs.Hops.{mayTake, nextIs, hopOf, Holds, NextIs};
 use arcs::fits_in;
 use settling::weigh;
 use task::Block;
 use task::BlockSets;
+use task::Costs;
 use task::Distances;
+use task::Shape;
 use task::Step;
-use task::StepSets;
+use task::Tables;
 
 // The next hop of a trace: a step, and the block that it leads to.
 pub enum Next {
@@ -43,18 +44,18 @@ fn to_try(
     count: usize,
     a: usize,
     s: usize,
-    needs: &StepSets,
-    costs: &[u16],
+    tables: &Tables,
+    costs: &Costs,
     sets: &BlockSets,
     dist: &Distances,
 ) -> usize
-    requires { ⌜ (columns ≤ limits .columns) × (a < limits .blocks) × (s < limits .steps) × (s < length (now costs)) ⌝ }
-    ensures { λ r. ⌜ r ≡ cond (mayTake columns (now (needs .entry)) (now (costs .entry)) (now (sets .entry)) (now (dist .entry)) a s) count 0 ⌝ }
+    requires { ⌜ (columns ≤ limits .columns) × (a < limits .blocks) × (s < limits .steps) ⌝ }
+    ensures { λ r. ⌜ r ≡ cond (mayTake columns (now (tables .entry)) (now (costs .entry)) (now (sets .entry)) (now (dist .entry)) a s) count 0 ⌝ }
 {
     if dist[a] < weigh(costs[s]) {
         return 0;
     }
-    if !fits_in(columns, s, a, needs, sets) {
+    if !fits_in(columns, s, a, tables, sets) {
         return 0;
     }
     count
@@ -67,13 +68,13 @@ fn fits(
     s: usize,
     b: usize,
     rest: u64,
-    needs: &StepSets,
-    lands: &StepSets,
+    tables: &Tables,
     sets: &BlockSets,
     dist: &Distances,
 ) -> bool
     requires { ⌜ (columns ≤ limits .columns) × (a < limits .blocks) × (s < limits .steps) × (b < limits .blocks) ⌝ }
-    ensures { λ r. ⌜ r ≡ (eqb (getD (now (dist .entry)) b 0) rest && leadsBy columns (now (needs .entry)) (now (lands .entry)) (now (sets .entry)) s a b) ⌝ }
+    ensures { λ r. ⌜ r
+        ≡ (eqb (getD (now (dist .entry)) b 0) rest && leadsBy columns (now (tables .entry)) (landsIn (now (tables .entry))) (now (sets .entry)) s a b) ⌝ }
 {
     if dist[b] != rest {
         return false;
@@ -83,40 +84,38 @@ fn fits(
         Step(s as u8),
         Block(a as u16),
         Block(b as u16),
-        needs,
-        lands,
+        tables,
         sets,
     )
 }
 
 // The lowest step and, for that step, the lowest block that keep the distance of block a.
 pub fn next_hop(
-    columns: usize,
-    steps: usize,
+    shape: Shape,
     count: usize,
     a: Block,
-    needs: &StepSets,
-    lands: &StepSets,
-    costs: &[u16],
+    tables: &Tables,
+    costs: &Costs,
     sets: &BlockSets,
     dist: &Distances,
 ) -> Next
-    requires { ⌜ (columns ≤ limits .columns) × (steps ≤ limits .steps) × (steps ≤ length (now costs)) × (count ≤ limits .blocks) × (a .0 < count) ⌝ }
-    ensures { λ r. ⌜ hopOf r ≡ nextBy steps count (fitsBy columns (now (needs .entry)) (now (lands .entry)) (now (costs .entry)) (now (sets .entry))
-        (now (dist .entry)) (a .0)) ⌝
-        ∗ ⌜ ((t : Task) (goals : List ℕ) → Accepted t → Tables t columns steps (now (needs .entry)) (now (lands .entry)) goals (now (costs .entry))
-        → Holds (distances t (blocksIn columns count (now (sets .entry)))) count (now (dist .entry))
-        → NextIs t (blocksIn columns count (now (sets .entry))) a r) ⌝ }
+    requires { ⌜ Within shape × (count ≤ limits .blocks) × (a .0 < count) ⌝ }
+    ensures { λ r. ⌜ hopOf r ≡ nextIs shape count (now (tables .entry)) (now (costs .entry)) (now (sets .entry)) (now (dist .entry)) (a .0) ⌝
+        ∗ ⌜ ((t : Task) → Accepted t → TablesOf t shape (now (tables .entry)) (now (costs .entry))
+        → Holds (distances t (blocksIn (shape .columns) count (now (sets .entry)))) count (now (dist .entry))
+        → NextIs t (blocksIn (shape .columns) count (now (sets .entry))) a r) ⌝ }
 {
+    let columns = shape.columns;
+    let steps = shape.steps;
     let from = a.0 as usize;
     let mut s: usize = 0;
     let mut b: usize = 0;
     'steps: while s < steps {
-        let last = to_try(columns, count, from, s, needs, costs, sets, dist);
+        let last = to_try(columns, count, from, s, tables, costs, sets, dist);
         let rest = after(dist[from], costs[s]);
         b = 0;
         while b < last {
-            if fits(columns, from, s, b, rest, needs, lands, sets, dist) {
+            if fits(columns, from, s, b, rest, tables, sets, dist) {
                 break 'steps;
             }
             b += 1;

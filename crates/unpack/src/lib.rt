@@ -5,7 +5,7 @@ ghost use Rattle.task.specs.Sizes.{limits, stepPlaces};
 ghost use Rattle.task.specs.Loops.{tab, over};
 ghost use Rattle.task.specs.Tables.{mark};
 ghost use Rattle.task.specs.Task.{position};
-ghost use Rattle.sheets.specs.ModelSheet.{columnsOf, stepsOf, ofSheet};
+ghost use Rattle.sheets.specs.ModelSheet.{columnsOf, stepsOf, ofSheet, judgeSheet};
 ghost use Rattle.sheets.specs.Holding.{unused, markPlace, markTable, modelOf, noModel};
 ghost use Rattle.unpack.specs.Unpacking.{sizeOn, startOn, goalOn, tenthsOn, markOn, unpacked};
 use fields::field::field;
@@ -139,6 +139,16 @@ fn tables(s: &[u8], n: usize, m: usize) -> Model
     }
 }
 
+// The model of an accepted sheet.
+pub fn unpack_accepted(sheet: &[u8]) -> Model
+    requires { ⌜ judgeSheet (now sheet) ≡ 0 ⌝ }
+    ensures { λ r. ⌜ r ≡ modelOf (ofSheet (now (sheet .entry))) ⌝ }
+{
+    let n = field(sheet, 4, 5) as usize;
+    let m = field(sheet, 9, 8) as usize;
+    tables(sheet, n, m)
+}
+
 // Reads a model sheet: its refusal, or its model.
 pub fn unpack_model(sheet: &[u8]) -> Read
     ensures { λ r. ⌜ r ≡ unpacked (now (sheet .entry)) ⌝ }
@@ -151,9 +161,7 @@ pub fn unpack_model(sheet: &[u8]) -> Read
             model: none,
         };
     }
-    let n = field(sheet, 4, 5) as usize;
-    let m = field(sheet, 9, 8) as usize;
-    let model = tables(sheet, n, m);
+    let model = unpack_accepted(sheet);
     Read {
         code: 0,
         model: model,

@@ -14,6 +14,7 @@ use Rattle.task.specs.declared.Block.{Block}
 use Rattle.task.specs.Sizes.{limits}
 use Rattle.task.proofs.LoopLaws.{true-or-false}
 use Rattle.blocks.specs.declared.Cut.{Cut}
+use Rattle.blocks.specs.Masks.{rowsFrom}
 use Rattle.blocks.proofs.PartLaws.{same-or-not}
 use Rattle.distances.specs.Distances.{Hop}
 use Rattle.trace.specs.Hops.{fitsBy, nextBy}
@@ -22,8 +23,8 @@ use Rattle.walk.specs.declared.Found.{Found}
 use Rattle.walk.specs.declared.Found.the-variants.{Plan, Flaw}
 use Rattle.walk.specs.declared.Turn.{Turn}
 use Rattle.walk.specs.declared.Turn.the-variants.{Went, Ended, Flawed}
-use Rattle.standing.specs.Standing.{takesBy, landsBy, goalAtEnd, takenBy, cutBy, backRow, needRow}
-use Rattle.walk.specs.Walking.{Followed, outcome, endBy, turnOn, turnBy, standsAfter, followBy, Known}
+use Rattle.standing.specs.Standing.{takesBy, landsBy, goalAtEnd, takenBy, cutBy, backRow}
+use Rattle.walk.specs.Walking.{Followed, outcome, arriveBy, turnOn, turnBy, standsAfter, followBy, Known}
 
 module _ (columns steps count : ℕ) (needs lands goals costs sets dist : List ℕ) where
   abbrev turn : Block → List ℕ → Turn
@@ -33,7 +34,7 @@ module _ (columns steps count : ℕ) (needs lands goals costs sets dist : List �
   left n i a here path = followBy columns steps count needs lands goals costs sets dist n i a here path
 
   abbrev ended : ℕ → Block → List ℕ → List ℕ → Followed
-  ended i a here path = outcome (endBy columns goals sets i a here) here path
+  ended i a here path = outcome (arriveBy columns goals sets i a here) here path
 
   -- ---- one turn
   pub follow-none : (i : ℕ) (a : Block) (here path : List ℕ) → left 0 i a here path ≡ ended i a here path
@@ -75,7 +76,7 @@ module _ (columns steps count : ℕ) (needs lands goals costs sets dist : List �
           let z : _≡_ {A = ℕ} 0 1 = cc in absurd (omega arith))
           (true-or-false (landsBy columns lands sets here (h .step .0) (h .to .0))))
           (λ (c : takesBy columns needs here (h .step .0) ≡ false).
-          let k : Flawed (cutBy columns sets here a (needRow needs (h .step .0))) ≡ Went s b = rw c at q in
+          let k : Flawed (cutBy columns sets here a (rowsFrom (h .step .0) needs)) ≡ Went s b = rw c at q in
           let z : _≡_ {A = ℕ} 0 1 = cc in absurd (omega arith))
           (true-or-false (takesBy columns needs here (h .step .0)))
 
@@ -120,7 +121,7 @@ module _ (columns steps count : ℕ) (needs lands goals costs sets dist : List �
           }
 
       -- no hop is found
-      pub going-ended : (last : List ℕ) (f : Found) → r ≡ Ended → last ≡ here′ → f ≡ endBy columns goals sets i a last → outcome f last path ≡ whole
+      pub going-ended : (last : List ℕ) (f : Found) → r ≡ Ended → last ≡ here′ → f ≡ arriveBy columns goals sets i a last → outcome f last path ≡ whole
       unfolding standsAfter
       going-ended last f e q fs =
           let same : last ≡ here = q ∙ stands ∙ ap (standsAfter columns lands here) e in
@@ -134,12 +135,12 @@ module _ (columns steps count : ℕ) (needs lands goals costs sets dist : List �
           rw same (sym (follow-flawed (n - (i + 1)) i a here path c (sym is ∙ e)) ∙ step-left h)
 
     -- all hops are made
-    pub going-all : (last : List ℕ) (f : Found) → n ≤ i → last ≡ here → f ≡ endBy columns goals sets i a last → outcome f last path ≡ whole
+    pub going-all : (last : List ℕ) (f : Found) → n ≤ i → last ≡ here → f ≡ arriveBy columns goals sets i a last → outcome f last path ≡ whole
     going-all last f h same fs = let e : n - i ≡ 0 = omega arith in rw (fs, same) (sym (follow-none i a here path) ∙ (rw e at (going .rest)))
 
     -- ---- the steps of the path
-    pub known-end : (last : List ℕ) (f : Found) → f ≡ endBy columns goals sets i a last → n < limits .blocks → Known steps f path
-    unfolding Known endBy
+    pub known-end : (last : List ℕ) (f : Found) → f ≡ arriveBy columns goals sets i a last → n < limits .blocks → Known steps f path
+    unfolding Known arriveBy
     known-end last f fs few m e =
         ⊎-elim
         (λ (g : goalAtEnd columns goals last ≡ true).

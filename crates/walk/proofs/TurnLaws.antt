@@ -6,12 +6,13 @@ use mathlib.Core.Option.{some}
 use Prim.Native.Nat.{ℕ, _<_}
 use Rattle.task.specs.declared.Step.{Step}
 use Rattle.task.specs.declared.Block.{Block}
+use Rattle.blocks.specs.Masks.{rowsFrom}
 use Rattle.trace.specs.declared.Next.{Next}
 use Rattle.trace.specs.declared.Next.the-variants.{To, Nothing}
 use Rattle.trace.specs.Hops.{fitsBy, nextBy, hopOf}
 use Rattle.trace.proofs.HopLaws.{next-below}
 use Rattle.walk.specs.declared.Turn.the-variants.{Went, Ended, Flawed}
-use Rattle.standing.specs.Standing.{takesBy, landsBy, needRow, backRow, cutBy}
+use Rattle.standing.specs.Standing.{takesBy, landsBy, backRow, cutBy}
 use Rattle.walk.specs.Walking.{turnOn, turnBy}
 
 module _ (columns steps count : ℕ) (needs lands costs sets dist : List ℕ) (a : Block) (here : List ℕ) (r : Next)
@@ -29,7 +30,7 @@ module _ (columns steps count : ℕ) (needs lands costs sets dist : List ℕ) (a
     hop-below = next-below (fitsBy columns needs lands costs sets dist (a .0)) steps count (record { step = s; to = b }) hop-is
 
     pub turn-need : takesBy columns needs here (s .0) ≡ false
-        → Flawed (cutBy columns sets here a (needRow needs (s .0))) ≡ turnBy columns steps count needs lands costs sets dist a here
+        → Flawed (cutBy columns sets here a (rowsFrom (s .0) needs)) ≡ turnBy columns steps count needs lands costs sets dist a here
     unfolding turnBy turnOn
     turn-need h = rw (hop-is, h)
 

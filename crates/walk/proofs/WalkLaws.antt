@@ -11,11 +11,12 @@ use lib.ListN.{length, getD, set, length-set, length-map}
 use lib.Seq.{getD-set-same, getD-set-other}
 use Rattle.task.specs.declared.Step.{Step}
 use Rattle.task.specs.declared.Block.{Block}
+use Rattle.task.specs.declared.Shape.{Shape}
 use Rattle.task.specs.Loops.{tab}
 use Rattle.task.specs.Sizes.{limits, tenth}
-use Rattle.task.specs.Task.{Task, State, Tenths, Accepted, step, stepCount, costOf, isState, isGoal, canTake, taken}
+use Rattle.task.specs.Task.{Task, State, Tenths, Accepted, step, stepCount, costOf, isState, isGoal, canTake, taken, start}
 use Rattle.task.proofs.LoopLaws.{and-left, and-right, true-or-false, tab-length, tab-ext}
-use Rattle.task.proofs.TaskLaws.{taken-state}
+use Rattle.task.proofs.TaskLaws.{taken-state, start-state}
 use Rattle.blocks.specs.declared.Cut.{Cut}
 use Rattle.blocks.specs.Blocks.{Blocks, blockAt, inBlock, leads}
 use Rattle.blocks.specs.Flat.{blocksIn}
@@ -23,7 +24,7 @@ use Rattle.blocks.proofs.PartLaws.{Parts}
 use Rattle.blocks.proofs.FlatLaws.{blocks-length}
 use Rattle.blocks.proofs.CutLaws.{accepted-parts}
 use Rattle.distances.specs.Distances.{Distance, Hop, Table, plus, far, zeroFar, leadsTo, isPath, farOf, distances}
-use Rattle.blocks.specs.Masks.{Tables, Stands}
+use Rattle.blocks.specs.Masks.{Tables, Stands, rowsFrom, landsIn, goalsIn}
 use Rattle.settling.specs.Coded.{coded, codedAt}
 use Rattle.settling.proofs.JoinLaws.{far-small}
 use Rattle.run.specs.Run.{Walk, arrived, flawed, Look, planned, flaw, keeps, nextHop, trace, walk, cutFor, lookWalk}
@@ -35,8 +36,9 @@ use Rattle.walk.specs.declared.Found.{Found}
 use Rattle.walk.specs.declared.Found.the-variants.{Plan}
 use Rattle.walk.specs.declared.Turn.{Turn}
 use Rattle.walk.specs.declared.Turn.the-variants.{Went, Ended, Flawed}
-use Rattle.standing.specs.Standing.{takesBy, landsBy, goalAtEnd, takenBy, needRow, backRow, cutBy}
-use Rattle.walk.specs.Walking.{Followed, outcome, endBy, turnOn, turnBy, followBy, stepIn, seen, Known, Begins, walked}
+use Rattle.standing.specs.Standing.{takesBy, landsBy, goalAtEnd, takenBy, backRow, cutBy, atStart}
+use Rattle.walk.specs.Walking.{Followed, outcome, arriveBy, turnOn, turnBy, followBy, followFrom, Says, stepIn, pathSteps, seen, Known, Begins, walked}
+use Rattle.standing.proofs.StartLaws.{start-stands}
 use Rattle.standing.proofs.StandLaws.{takes-is, goal-is, lands-is, stands-taken, goal-cut, need-cut, back-cut}
 use Rattle.walk.proofs.FollowLaws.{follow-none, follow-ended, follow-flawed, follow-went}
 
@@ -91,8 +93,8 @@ module _ (t : Task) (v : Accepted t) (columns steps count : ℕ) (needs lands go
   narrow = omega (arith, v .columns .1, tables .wide)
 
   end-is : (i : ℕ) (a : Block) (x : State) (here path : List ℕ) → At x a here → isPath t bs a [] ≡ true
-      → seenIn cost (outcome (endBy columns goals sets i a here) here path) ≡ lookOn (tab i (stepIn path)) [] (walk t bs x a [])
-  unfolding endBy walk lookOn isPath seen
+      → seenIn cost (outcome (arriveBy columns goals sets i a here) here path) ≡ lookOn (tab i (stepIn path)) [] (walk t bs x a [])
+  unfolding arriveBy walk lookOn isPath seen pathSteps
   end-is i a x here path s w =
       let e : goalAtEnd columns goals here ≡ isGoal t x = goal-is t columns count needs lands goals sets (tables .told) (tables .wide) x here (s .stands) in
       ⊎-elim
@@ -141,9 +143,9 @@ module _ (t : Task) (v : Accepted t) (columns steps count : ℕ) (needs lands go
     takes = takes-is t columns count needs lands goals sets (tables .told) (tables .wide) x here (s .stands) (h .step) known
 
     need-flawed : canTake t (h .step) x ≡ false → seenIn cost (left (suc n) i a here path) ≡ lookOn (tab i (stepIn path)) (h ∷ hops n (h .to)) (walk t bs x a (h ∷ hops n (h .to)))
-    unfolding turnOn walk lookOn seen
+    unfolding turnOn walk lookOn seen pathSteps
     need-flawed c =
-        let w : turn a here ≡ Flawed (cutBy columns sets here a (needRow needs (h .step .0))) = turn-of a here d (some h) (s .made) e q ∙ rw (takes, c) in
+        let w : turn a here ≡ Flawed (cutBy columns sets here a (rowsFrom (h .step .0) needs)) = turn-of a here d (some h) (s .made) e q ∙ rw (takes, c) in
         rw (follow-flawed columns steps count needs lands goals costs sets dist n i a here path _ w, c, walk)
         (ap (flaw cost)
         (need-cut t columns count needs lands goals sets (tables .told) (tables .wide) x here (s .stands) good (s .is) narrow a (h .step) known
@@ -155,7 +157,7 @@ module _ (t : Task) (v : Accepted t) (columns steps count : ℕ) (needs lands go
 
       back-flawed : inBlock t (taken t (h .step) x) (blockAt bs (h .to)) ≡ false
           → seenIn cost (left (suc n) i a here path) ≡ lookOn (tab i (stepIn path)) (h ∷ hops n (h .to)) (walk t bs x a (h ∷ hops n (h .to)))
-      unfolding turnOn walk lookOn seen
+      unfolding turnOn walk lookOn seen pathSteps
       back-flawed o =
           let w : turn a here ≡ Flawed (cutBy columns sets here a (backRow needs lands sets (h .step .0) (h .to .0))) =
           turn-of a here d (some h) (s .made) e q ∙ rw (takes, c, lands-there, o) in
@@ -231,7 +233,7 @@ far-length t (h ∷ hs) = ap suc (far-length t hs)
 
 pub plan-long : (t : Task) (columns count : ℕ) (sets path : List ℕ) (x : State) (a : Block) (d : Distance) (n : ℕ) → a .0 < count → farOf (distances t (blocksIn columns count sets)) a ≡ some d
     → seen (d .cost) (Plan n) path ≡ walked t columns count sets x a d → n ≡ d .steps
-unfolding seen walked
+unfolding seen pathSteps walked
 plan-long t columns count sets path x a d n ha e q = go (walk t bs x a hs) q
   where
     bs : Blocks
@@ -251,29 +253,25 @@ plan-long t columns count sets path x a d n ha e q = go (walk t bs x a hs) q
     go (flawed a x w) q = let z : _≡_ {A = ℕ} 0 1 = unfold lookWalk in cc in absurd (omega arith)
 
 -- ---- what a walk came to on the tables is what 01 says, of any task whose tables they are
-module _ (columns steps count : ℕ) (a : Block) (needs lands goals costs sets dist here path : List ℕ) (few : count ≤ limits .blocks) (made : a .0 < count) (room : length path ≡ limits .blocks)
-    (r : Found) (here′ path′ : List ℕ) (is : outcome r here′ path′ ≡ followBy columns steps count needs lands goals costs sets dist (getD dist (a .0) 0 % tenth) 0 a here path) where
-  pub follow-right : (t : Task) (cs : List Cut) (x : State) (d : Distance) → Begins t cs x d columns steps count a needs lands goals costs sets dist here
-      → seen (d .cost) r path′ ≡ walked t columns count sets x a d
+module _ (f : Shape) (count : ℕ) (a : Block) (tables costs sets dist path : List ℕ) (few : count ≤ limits .blocks) (made : a .0 < count) (room : length path ≡ limits .blocks)
+    (r : Found) (here′ path′ : List ℕ) (is : outcome r here′ path′ ≡ followFrom f count tables costs sets dist a path) where
+  follow-right : (t : Task) (cs : List Cut) (d : Distance) → Begins t cs d f count a tables costs sets dist
+      → seen (d .cost) r path′ ≡ walked t (f .columns) count sets (start t) a d
   unfolding walked Holds codedAt coded
-  follow-right t cs x d b =
-      let bs : Blocks = blocksIn columns count sets in
+  follow-right t cs d b =
+      let columns = f .columns in
       let l = blocks-length columns count sets in
-      let good : Parts t (blocksIn columns count sets) = rw (b .blocks) (accepted-parts t (b .task) cs (b .cuts)) in
+      let good : Parts t (blocksIn columns count sets) = rw (b .blocks) (accepted-parts t (b .tabled .task) cs (b .cuts)) in
       let n : getD dist (a .0) 0 ≡ d .cost * tenth + d .steps = b .dists (a .0) made ∙ rw (b .far) in
-      let small = far-small t (blocksIn columns count sets) (b .task .tenths) (omega arith) a d (omega arith) (b .far) in
+      let small = far-small t (blocksIn columns count sets) (b .tabled .task .tenths) (omega arith) a d (omega arith) (b .far) in
       let k : d .steps ≡ getD dist (a .0) 0 % tenth = omega (arith, small .0) in
-      let e : outcome r here′ path′ ≡ followBy columns steps count needs lands goals costs sets dist (d .steps) 0 a here path = rw k is in
+      let e : outcome r here′ path′ ≡ followBy columns (f .steps) count tables (landsIn tables) (goalsIn tables) costs sets dist (d .steps) 0 a (atStart tables) path = rw k is in
       ap (seenIn (d .cost)) e
-      ∙ whole-is t (b .task) columns steps count needs lands goals costs sets dist (b .tables) good few (b .dists) (d .cost) a x here path d
-      (record { made = made; is = b .is; inside = b .inside; stands = b .stands }) (b .far) (omega (arith, small .0)) refl
+      ∙ whole-is t (b .tabled .task) columns (f .steps) count tables (landsIn tables) (goalsIn tables) costs sets dist (b .tabled .own) good few (b .dists) (d .cost) a (start t) (atStart tables) path d
+      (record { made = made; is = start-state t (b .tabled .task); inside = b .inside; stands = start-stands t (b .tabled .task) (start t) tables (b .tabled .start) }) (b .far) (omega (arith, small .0)) refl
 
   -- all that a walk's contract says, from one equation
-  abbrev pub Answers : Type 0
-  Answers =
-      (outcome r here′ path′ ≡ followBy columns steps count needs lands goals costs sets dist (getD dist (a .0) 0 % tenth) 0 a here path)
-      × ((Known steps r path′ × (length here′ ≡ limits .columns) × (length path′ ≡ limits .blocks))
-      × ((t : Task) (cs : List Cut) (x : State) (d : Distance) → Begins t cs x d columns steps count a needs lands goals costs sets dist here → seen (d .cost) r path′ ≡ walked t columns count sets x a d))
-
-  pub answers : Known steps r path′ → length here′ ≡ limits .columns → length path′ ≡ limits .blocks → Answers
-  answers known wide long = (is, ((known, wide, long), follow-right))
+  pub answers : Known (f .steps) r path′ → length path′ ≡ limits .blocks
+      → Says r path′ (followFrom f count tables costs sets dist a path) × ((Known (f .steps) r path′ × (length path′ ≡ limits .blocks))
+      × ((t : Task) (cs : List Cut) (d : Distance) → Begins t cs d f count a tables costs sets dist → seen (d .cost) r path′ ≡ walked t (f .columns) count sets (start t) a d))
+  answers known long = (record { found = ap (λ (x : Followed). x .found) is; path = ap (λ (x : Followed). x .path) is }, ((known, long), follow-right))

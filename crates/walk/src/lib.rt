@@ -4,26 +4,29 @@ ghost use mathlib.Core.List.{List};
 ghost use Prim.Native.Nat.{_%_, _<_, _≤_};
 ghost use lib.ListN.{length, getD};
 ghost use Rattle.task.specs.Sizes.{limits, tenth};
-ghost use Rattle.task.specs.Task.{Task, State};
+ghost use Rattle.task.specs.Task.{Task, start};
 ghost use Rattle.blocks.specs.declared.Cut.{Cut};
+ghost use Rattle.blocks.specs.Masks.{landsIn, goalsIn, Within};
 ghost use Rattle.distances.specs.Distances.{Distance};
-ghost use Rattle.walk.specs.Walking.{endBy, turnBy, standsAfter, followBy, outcome, seen, Known, Begins, walked};
+ghost use Rattle.walk.specs.Walking.{arriveBy, turnIn, standsAfter, followFrom, Says, seen, Known, Begins, walked};
 use blocks::Cut;
 use standing::back_cut;
 use standing::can_take;
-use standing::cut_for;
 use standing::is_goal;
 use standing::lands_in;
-use standing::need_cut;
+use standing::row_cut;
+use standing::stand;
 use standing::take;
 use task::Block;
 use task::BlockSets;
 use task::ColumnSets;
+use task::Costs;
 use task::Distances;
 use task::Model;
 use task::Path;
+use task::Shape;
 use task::Step;
-use task::StepSets;
+use task::Tables;
 use trace::Next;
 
 // What a walk found: a plan of so many steps of the path, or the cut of a flaw.
@@ -41,101 +44,82 @@ enum Turn {
 
 // One hop of the trace from block a, and of the state along it.
 fn hop(
-    columns: usize,
-    steps: usize,
+    shape: Shape,
     count: usize,
     a: Block,
-    needs: &StepSets,
-    lands: &StepSets,
-    costs: &[u16],
+    tables: &Tables,
+    costs: &Costs,
     sets: &BlockSets,
     dist: &Distances,
     here: &mut ColumnSets,
 ) -> Turn
-    requires { ⌜ (columns ≤ limits .columns) × (steps ≤ limits .steps) × (steps ≤ length (now costs)) × (count ≤ limits .blocks) × (a .0 < count)
-        × (length (now here) ≡ limits .columns) ⌝ }
-    ensures { λ r. ⌜ r ≡ turnBy columns steps count (now (needs .entry)) (now (lands .entry)) (now (costs .entry)) (now (sets .entry))
-        (now (dist .entry)) a (now (here .entry)) ⌝ ∗ ⌜ now (here .exit) ≡ standsAfter columns (now (lands .entry)) (now (here .entry)) r ⌝
+    requires { ⌜ Within shape × (count ≤ limits .blocks) × (a .0 < count) × (length (now here) ≡ limits .columns) ⌝ }
+    ensures { λ r. ⌜ r ≡ turnIn shape count (now (tables .entry)) (now (costs .entry)) (now (sets .entry)) (now (dist .entry)) a (now (here .entry)) ⌝
+        ∗ ⌜ now (here .exit) ≡ standsAfter (shape .columns) (landsIn (now (tables .entry))) (now (here .entry)) r ⌝
         ∗ ⌜ length (now (here .exit)) ≡ limits .columns ⌝ }
 {
-    let next = trace::next_hop(columns, steps, count, a, needs, lands, costs, sets, dist);
+    let columns = shape.columns;
+    let next = trace::next_hop(shape, count, a, tables, costs, sets, dist);
     let Next::To(s, b) = next else {
         return Turn::Ended;
     };
-    if !can_take(columns, s, needs, here) {
-        return Turn::Flawed(need_cut(columns, a, s, needs, sets, here));
+    if !can_take(columns, s, tables, here) {
+        return Turn::Flawed(row_cut(columns, a, s.0 as usize, tables, sets, here));
     }
-    if !lands_in(columns, s, b, lands, sets, here) {
-        return Turn::Flawed(back_cut(columns, a, s, b, needs, lands, sets, here));
+    if !lands_in(columns, s, b, tables, sets, here) {
+        return Turn::Flawed(back_cut(columns, a, s, b, tables, sets, here));
     }
-    take(columns, s, lands, here);
+    take(columns, s, tables, here);
     Turn::Went(s, b)
 }
 
 // What the end of the trace is: a goal state makes the hops a plan, any other is a goal flaw.
-fn end(
+fn arrive(
     columns: usize,
     hops: usize,
     a: Block,
-    goals: &ColumnSets,
+    tables: &Tables,
     sets: &BlockSets,
     here: &ColumnSets,
 ) -> Found
     requires { ⌜ (columns ≤ limits .columns) × (a .0 < limits .blocks) ⌝ }
-    ensures { λ r. ⌜ r ≡ endBy columns (now (goals .entry)) (now (sets .entry)) hops a (now (here .entry)) ⌝ }
+    ensures { λ r. ⌜ r ≡ arriveBy columns (goalsIn (now (tables .entry))) (now (sets .entry)) hops a (now (here .entry)) ⌝ }
 {
-    if is_goal(columns, goals, here) {
+    if is_goal(columns, tables, here) {
         return Found::Plan(hops);
     }
-    Found::Flaw(cut_for(columns, a, goals, sets, here))
+    Found::Flaw(row_cut(columns, a, Model::GOAL, tables, sets, here))
 }
 
-// Walks from the state that stands here, in block `from`, along the block's trace. The path gets the steps that were taken; places past them
-// stay as they are.
+// Walks from the start, in block `from`, along the block's trace. The path gets the steps that were taken; places past them stay as they are.
 pub fn follow(
-    columns: usize,
-    steps: usize,
+    shape: Shape,
     count: usize,
     from: Block,
-    needs: &StepSets,
-    lands: &StepSets,
-    goals: &ColumnSets,
-    costs: &[u16],
+    tables: &Tables,
+    costs: &Costs,
     sets: &BlockSets,
     dist: &Distances,
-    here: &mut ColumnSets,
     path: &mut Path,
 ) -> Found
-    requires { ⌜ (columns ≤ limits .columns) × (steps ≤ limits .steps) × (steps ≤ length (now costs)) × (count ≤ limits .blocks) × (from .0 < count)
-        × (getD (now dist) (from .0) 0 % tenth < limits .blocks) × (length (now here) ≡ limits .columns)
-        × (length (now path) ≡ limits .blocks) ⌝ }
-    ensures { λ r. ⌜ outcome r (now (here .exit)) (now (path .exit))
-        ≡ followBy columns steps count (now (needs .entry)) (now (lands .entry)) (now (goals .entry)) (now (costs .entry)) (now (sets .entry))
-        (now (dist .entry)) (getD (now (dist .entry)) (from .0) 0 % tenth) 0 from (now (here .entry)) (now (path .entry)) ⌝
-        ∗ ⌜ Known steps r (now (path .exit)) × (length (now (here .exit)) ≡ limits .columns)
-        × (length (now (path .exit)) ≡ limits .blocks) ⌝
-        ∗ ⌜ ((t : Task) (cs : List Cut) (x : State) (d : Distance)
-        → Begins t cs x d columns steps count from (now (needs .entry)) (now (lands .entry)) (now (goals .entry)) (now (costs .entry))
-        (now (sets .entry)) (now (dist .entry)) (now (here .entry)) → seen (d .cost) r (now (path .exit))
-        ≡ walked t columns count (now (sets .entry)) x from d) ⌝ }
+    requires { ⌜ Within shape × (count ≤ limits .blocks) × (from .0 < count) ⌝
+        ∗ ⌜ (getD (now dist) (from .0) 0 % tenth < limits .blocks) × (length (now path) ≡ limits .blocks) ⌝ }
+    ensures { λ r. ⌜ Says r (now (path .exit))
+        (followFrom shape count (now (tables .entry)) (now (costs .entry)) (now (sets .entry)) (now (dist .entry)) from (now (path .entry))) ⌝
+        ∗ ⌜ Known (shape .steps) r (now (path .exit)) × (length (now (path .exit)) ≡ limits .blocks) ⌝
+        ∗ ⌜ ((t : Task) (cs : List Cut) (d : Distance)
+        → Begins t cs d shape count from (now (tables .entry)) (now (costs .entry)) (now (sets .entry)) (now (dist .entry))
+        → seen (d .cost) r (now (path .exit)) ≡ walked t (shape .columns) count (now (sets .entry)) (start t) from d) ⌝ }
 {
+    let columns = shape.columns;
+    let mut here = [0u32; Model::COLUMNS];
+    stand(tables, &mut here);
     let a0 = from.0 as usize;
     let n = (dist[a0] % Model::TENTH) as usize;
     let mut a = from;
     let mut i: usize = 0;
     while i < n {
-        let turn = hop(
-            columns,
-            steps,
-            count,
-            a,
-            needs,
-            lands,
-            costs,
-            sets,
-            dist,
-            here,
-        );
+        let turn = hop(shape, count, a, tables, costs, sets, dist, &mut here);
         match turn {
             Turn::Went(s, b) => {
                 path[i] = s.0;
@@ -150,5 +134,5 @@ pub fn follow(
         }
         i += 1;
     }
-    end(columns, i, a, goals, sets, here)
+    arrive(columns, i, a, tables, sets, &here)
 }

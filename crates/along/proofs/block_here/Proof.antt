@@ -39,7 +39,7 @@ shared-slice-read-column c = search needs
 
 -- src/lib.rt:77:22
 cast-column : tie.Need-cast-column Inv-loop μ-loop
-cast-column c = let h = c .before .before .before .before .pre .2 (c .before .before .loop .i) (c .before .loop-test .taken) in search (h, needs)
+cast-column c = let h = c .before .before .before .before .pre .columns (c .before .before .loop .i) (c .before .loop-test .taken) in search (h, needs)
 
 -- src/lib.rt:78:26
 mul-sends-on : tie.Need-mul-sends-on Inv-loop μ-loop
@@ -71,11 +71,11 @@ shared-slice-read-sends-on-2 c = search needs
 
 -- src/lib.rt:78:51
 mul-sends-on-5 : tie.Need-mul-sends-on-5 Inv-loop μ-loop
-mul-sends-on-5 c = let h = c .before .before .before .before .before .before .pre .2 (c .before .before .before .before .loop .i) (c .before .before .before .loop-test .taken) in search (h, needs)
+mul-sends-on-5 c = let h = c .before .before .before .before .before .before .pre .columns (c .before .before .before .before .loop .i) (c .before .before .before .loop-test .taken) in search (h, needs)
 
 -- src/lib.rt:78:51
 element-copy-out-sends-on : tie.Need-element-copy-out-sends-on Inv-loop μ-loop
-element-copy-out-sends-on c = c .before .before .before .before .before .before .pre .2 (c .before .before .before .before .loop .i) (c .before .before .before .loop-test .taken)
+element-copy-out-sends-on c = c .before .before .before .before .before .before .pre .columns (c .before .before .before .before .loop .i) (c .before .before .before .loop-test .taken)
 
 -- src/lib.rt:78:12
 sends-on-requires : tie.Need-sends-on-requires Inv-loop μ-loop

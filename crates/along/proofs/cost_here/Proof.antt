@@ -13,7 +13,7 @@ use Rattle.along.proofs.block_here.Reads as block-here-reads
 
 -- src/lib.rt:96:9
 block-here-requires : tie.Need-block-here-requires
-block-here-requires c κs = let p = c .before .pre in (p .few, p .listed, p .there)
+block-here-requires c κs = c .before .pre .follows
 
 -- src/lib.rt:97:11
 cast-result : tie.Need-cast-result
@@ -25,7 +25,7 @@ mul-result c = search needs
 
 -- src/lib.rt:97:6
 element-copy-out-result : tie.Need-element-copy-out-result
-element-copy-out-result c = let p = c .before .before .before .pre in search (needs, p .few, c .before .block-here .ensures .1)
+element-copy-out-result c = let p = c .before .before .before .pre in search (needs, p .follows .few, c .before .block-here .ensures .1)
 
 -- src/lib.rt:97:5
 cast-result-2 : tie.Need-cast-result-2

@@ -4,6 +4,7 @@ use mathlib.Core.Path.{_≡_, sym, subst}
 use lib.ListN.{length, set, length-set}
 use Rattle.task.specs.Loops.{tab, over}
 use Rattle.task.specs.Sizes.{limits}
+use Rattle.blocks.specs.Masks.{landsIn}
 use Rattle.task.proofs.LoopLaws.{over-none, over-set}
 use Rattle.along.specs.Along.{hereAfter, costAfter}
 use Rattle.along.proofs.TurnLaws.{here-none, here-more, cost-after}
@@ -16,12 +17,12 @@ use Rattle.along.proofs.cost_here.Reads as cost-here-reads
 use Rattle.standing.proofs.take.Reads as take-reads
 
 abbrev Inv-loop : tie.InvT-loop
-Inv-loop columns lands count cuts dist log here₀ estimates₀ i₀ here estimates i =
-    (i ≤ length log) × (length here ≡ 16) × (length estimates ≡ limits .log + 1) × (here ≡ hereAfter columns lands log here₀ i)
-    × (estimates ≡ over (tab i (costAfter columns lands count cuts dist log here₀)) estimates₀)
+Inv-loop columns tables count cuts dist log here₀ estimates₀ i₀ here estimates i =
+    (i ≤ length log) × (length here ≡ limits .columns) × (length estimates ≡ limits .log + 1) × (here ≡ hereAfter columns (landsIn tables) log here₀ i)
+    × (estimates ≡ over (tab i (costAfter columns (landsIn tables) count cuts dist log here₀)) estimates₀)
 
 abbrev μ-loop : tie.MeasureT-loop
-μ-loop columns lands count cuts dist log here₀ estimates₀ i₀ here estimates i = length log - i
+μ-loop columns tables count cuts dist log here₀ estimates₀ i₀ here estimates i = length log - i
 
 -- src/lib.rt:119:5
 loop-holds : tie.Need-loop-holds Inv-loop μ-loop
@@ -73,9 +74,9 @@ loop-again c = let g = c .before .before .before .before .before .before .before
       omega arith,
       c .take .ensures .1,
       simp length-set (l .inv .2),
-      here-more (g .columns) (g .lands .now) (g .log .now) (g .here .now) (l .i) (l .inv .3) (c .take .ensures .0),
+      here-more (g .columns) (landsIn (g .tables .now)) (g .log .now) (g .here .now) (l .i) (l .inv .3) (c .take .ensures .0),
       over-set _ (l .i) _ (l .estimates) (g .estimates .now) (l .inv .4) (omega (arith, p .0 .2, p .0 .3, c .before .before .before .before .before .loop-test .taken))
-          (cost-after (g .columns) (g .lands .now) (g .count) (g .cuts .now) (g .dist .now) (g .log .now) (g .here .now) (l .i) (l .inv .3) (c .before .before .before .cost-here .ensures)),
+          (cost-after (g .columns) (landsIn (g .tables .now)) (g .count) (g .cuts .now) (g .dist .now) (g .log .now) (g .here .now) (l .i) (l .inv .3) (c .before .before .before .cost-here .ensures)),
     )
 
 -- src/lib.rt:124:20
@@ -96,9 +97,9 @@ returns c = let g = c .before .before .before .before .before .before .args in
     let p = c .before .before .before .before .before .before .pre in
     let l = c .before .before .before .loop in
     let e : l .i ≡ length (g .log .now) = omega (arith, l .inv .0, c .before .before .loop-test .left) in
-    subst (λ (n : ℕ). set (l .estimates) (l .i) (c .cost-here2 .result) ≡ over (tab (n + 1) (costAfter (g .columns) (g .lands .now) (g .count) (g .cuts .now) (g .dist .now) (g .log .now) (g .here .now))) (g .estimates .now)) e
+    subst (λ (n : ℕ). set (l .estimates) (l .i) (c .cost-here2 .result) ≡ over (tab (n + 1) (costAfter (g .columns) (landsIn (g .tables .now)) (g .count) (g .cuts .now) (g .dist .now) (g .log .now) (g .here .now))) (g .estimates .now)) e
     (over-set _ (l .i) _ (l .estimates) (g .estimates .now) (l .inv .4) (omega (arith, p .0 .2, p .0 .3, e))
-    (cost-after (g .columns) (g .lands .now) (g .count) (g .cuts .now) (g .dist .now) (g .log .now) (g .here .now) (l .i) (l .inv .3) (c .cost-here2 .ensures)))
+    (cost-after (g .columns) (landsIn (g .tables .now)) (g .count) (g .cuts .now) (g .dist .now) (g .log .now) (g .here .now) (l .i) (l .inv .3) (c .cost-here2 .ensures)))
 
 pub fill-along-spec : {M : Type 1} → statement M
 fill-along-spec =

@@ -4,6 +4,8 @@ use mathlib.Core.Path.{_≡_}
 use mathlib.Core.Option.{none}
 use lib.ListN.{length}
 use Rattle.task.specs.Loops.{first}
+use Rattle.task.specs.Sizes.{limits}
+use Rattle.blocks.specs.Masks.{landsIn}
 use Rattle.along.specs.Along.{hereAfter, stopAt}
 use Rattle.along.proofs.TurnLaws.{here-none, here-more, small, stopped, went, through}
 use Rattle.task.proofs.LoopLaws.{first-nothing}
@@ -17,11 +19,11 @@ use Rattle.along.proofs.may_go.Reads as may-go-reads
 use Rattle.standing.proofs.take.Reads as take-reads
 
 abbrev Inv-loop : tie.InvT-loop
-Inv-loop columns steps needs lands log here₀ i₀ here i =
-    (i ≤ length log) × (length here ≡ 16) × (here ≡ hereAfter columns lands log here₀ i) × (first i (stopAt columns steps needs lands log here₀) ≡ none)
+Inv-loop tables log here₀ columns steps i₀ here i =
+    (i ≤ length log) × (length here ≡ limits .columns) × (here ≡ hereAfter columns (landsIn tables) log here₀ i) × (first i (stopAt columns steps tables (landsIn tables) log here₀) ≡ none)
 
 abbrev μ-loop : tie.MeasureT-loop
-μ-loop columns steps needs lands log here₀ i₀ here i = length log - i
+μ-loop tables log here₀ columns steps i₀ here i = length log - i
 
 -- src/lib.rt:48:5
 loop-holds : tie.Need-loop-holds Inv-loop μ-loop
@@ -47,13 +49,13 @@ add-result c = search needs
 returns : tie.Need-returns Inv-loop μ-loop
 returns c = let g = c .before .before .before .before .before .before .before .args in
     let l = c .before .before .before .before .before .loop in
-    stopped (g .columns) (g .steps) (g .needs .now) (g .lands .now) (g .log .now) (g .here .now) (l .i) (c .before .before .before .before .loop-test .taken) (l .inv .3) (l .inv .2) (c .before .may-go .ensures) (not-true _ (c .if1 .taken))
+    stopped (g .shape .columns) (g .shape .steps) (g .tables .now) (landsIn (g .tables .now)) (g .log .now) (g .here .now) (l .i) (c .before .before .before .before .loop-test .taken) (l .inv .3) (l .inv .2) (c .before .may-go .ensures) (not-true _ (c .if1 .taken))
 
 -- src/lib.rt:53:28
 cast-t16 : tie.Need-cast-t16 Inv-loop μ-loop
 cast-t16 c = let g = c .before .before .before .before .before .before .before .args in
     let l = c .before .before .before .before .before .loop in
-    let k = small (g .columns) (g .steps) (g .needs .now) (l .here) _ (c .before .may-go .ensures) (not-false _ (c .if1 .left)) in
+    let k = small (g .shape .columns) (g .shape .steps) (g .tables .now) (l .here) _ (c .before .may-go .ensures) (not-false _ (c .if1 .left)) in
     search (needs, k)
 
 -- src/lib.rt:53:9
@@ -61,8 +63,8 @@ take-requires : tie.Need-take-requires Inv-loop μ-loop
 take-requires c κs = let g = c .before .before .before .before .before .before .before .before .args in
     let p = c .before .before .before .before .before .before .before .before .pre in
     let l = c .before .before .before .before .before .before .loop in
-    let k = small (g .columns) (g .steps) (g .needs .now) (l .here) _ (c .before .before .may-go .ensures) (not-false _ (c .before .if1 .left)) in
-    (p .0, omega (arith, k, p .1), l .inv .1)
+    let k = small (g .shape .columns) (g .shape .steps) (g .tables .now) (l .here) _ (c .before .before .may-go .ensures) (not-false _ (c .before .if1 .left)) in
+    (p .0 .columns, omega (arith, k, p .0 .steps), l .inv .1)
 
 -- src/lib.rt:54:9
 add-i : tie.Need-add-i Inv-loop μ-loop
@@ -78,8 +80,8 @@ loop-again c = let g = c .before .before .before .before .before .before .before
     let l = c .before .before .before .before .before .before .before .loop in (
       omega arith,
       c .take .ensures .1,
-      here-more (g .columns) (g .lands .now) (g .log .now) (g .here .now) (l .i) (l .inv .2) (c .take .ensures .0),
-      went (g .columns) (g .steps) (g .needs .now) (g .lands .now) (g .log .now) (g .here .now) (l .i) (l .inv .3) (l .inv .2) (c .before .before .before .may-go .ensures) (not-false _ (c .before .before .if1 .left)),
+      here-more (g .shape .columns) (landsIn (g .tables .now)) (g .log .now) (g .here .now) (l .i) (l .inv .2) (c .take .ensures .0),
+      went (g .shape .columns) (g .shape .steps) (g .tables .now) (landsIn (g .tables .now)) (g .log .now) (g .here .now) (l .i) (l .inv .3) (l .inv .2) (c .before .before .before .may-go .ensures) (not-false _ (c .before .before .if1 .left)),
     )
 
 -- src/lib.rt:36:1
@@ -87,7 +89,7 @@ returns-2 : tie.Need-returns-2 Inv-loop μ-loop
 returns-2 c = let g = c .before .before .before .args in
     let l = c .before .loop in
     let e : l .i ≡ length (g .log .now) = omega arith in
-    through (g .columns) (g .steps) (g .needs .now) (g .lands .now) (g .log .now) (g .here .now) (rw e at (l .inv .3))
+    through (g .shape .columns) (g .shape .steps) (g .tables .now) (landsIn (g .tables .now)) (g .log .now) (g .here .now) (rw e at (l .inv .3))
 
 pub judge-log-spec : {M : Type 1} → statement M
 judge-log-spec =

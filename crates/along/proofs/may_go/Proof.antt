@@ -12,7 +12,7 @@ cast-if1 c = search needs
 
 -- src/lib.rt:30:9
 returns : tie.Need-returns
-returns c = let g = c .before .args in unknown (g .columns) (g .steps) (g .needs .now) (g .here .now) (g .s) (c .if1 .taken)
+returns c = let g = c .before .args in unknown (g .columns) (g .steps) (g .tables .now) (g .here .now) (g .s) (c .if1 .taken)
 
 -- src/lib.rt:32:28
 cast-t8 : tie.Need-cast-t8
@@ -24,7 +24,7 @@ can-take-requires c κs = search needs
 
 -- src/lib.rt:19:1
 returns-2 : tie.Need-returns-2
-returns-2 c = let g = c .before .before .args in known (g .columns) (g .steps) (g .needs .now) (g .here .now) (g .s) (c .before .if1 .left) (c .can-take .ensures)
+returns-2 c = let g = c .before .before .args in known (g .columns) (g .steps) (g .tables .now) (g .here .now) (g .s) (c .before .if1 .left) (c .can-take .ensures)
 
 pub may-go-spec : {M : Type 1} → statement M
 may-go-spec = tie.close (tie.spec cast-if1 returns cast-t8 can-take-requires returns-2)

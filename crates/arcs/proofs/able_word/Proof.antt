@@ -13,10 +13,10 @@ use Rattle.arcs.proofs.able_word.Lts as lts
 use Rattle.arcs.proofs.with_need.Reads as with-need-reads
 
 abbrev Inv-loop : tie.InvT-loop
-Inv-loop columns s w needs sets rs v₀ j₀ v j = (j ≤ columns) × (v ≡ wordOf (fitsIn j needs sets s) w)
+Inv-loop columns s w tables sets rs v₀ j₀ v j = (j ≤ columns) × (v ≡ wordOf (fitsIn j tables sets s) w)
 
 abbrev μ-loop : tie.MeasureT-loop
-μ-loop columns s w needs sets rs v₀ j₀ v j = columns - j
+μ-loop columns s w tables sets rs v₀ j₀ v j = columns - j
 
 mul-rs : tie.Need-mul-rs Inv-loop μ-loop
 mul-rs c = search needs

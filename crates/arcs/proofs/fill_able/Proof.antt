@@ -13,10 +13,10 @@ use Rattle.arcs.proofs.fill_able.Lts as lts
 use Rattle.arcs.proofs.fill_row.Reads as fill-row-reads
 
 abbrev Inv-loop : tie.InvT-loop
-Inv-loop columns steps used needs sets able₀ w₀ able w = (w ≤ used) × (length able ≡ words * limits .steps) × Able columns steps needs sets w able
+Inv-loop columns steps used tables sets able₀ w₀ able w = (w ≤ used) × (length able ≡ words * limits .steps) × Able columns steps tables sets w able
 
 abbrev μ-loop : tie.MeasureT-loop
-μ-loop columns steps used needs sets able₀ w₀ able w = used - w
+μ-loop columns steps used tables sets able₀ w₀ able w = used - w
 
 loop-holds : tie.Need-loop-holds Inv-loop μ-loop
 loop-holds c = (omega arith, omega arith, able-none _ _ _ _ _)

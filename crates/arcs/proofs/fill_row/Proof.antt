@@ -16,12 +16,12 @@ use Rattle.arcs.proofs.fill_row.Lts as lts
 use Rattle.arcs.proofs.able_word.Reads as able-word-reads
 
 abbrev Inv-loop : tie.InvT-loop
-Inv-loop columns steps w needs sets able₀ row s₀ able s =
-    (s ≤ steps) × (length able ≡ words * limits .steps) × ((x : ℕ) → x < s → getD able (w * limits .steps + x) 0 ≡ wordOf (fitsIn columns needs sets x) w)
+Inv-loop columns steps w tables sets able₀ row s₀ able s =
+    (s ≤ steps) × (length able ≡ words * limits .steps) × ((x : ℕ) → x < s → getD able (w * limits .steps + x) 0 ≡ wordOf (fitsIn columns tables sets x) w)
     × ((i : ℕ) → i < w * limits .steps → getD able i 0 ≡ getD able₀ i 0)
 
 abbrev μ-loop : tie.MeasureT-loop
-μ-loop columns steps w needs sets able₀ row s₀ able s = steps - s
+μ-loop columns steps w tables sets able₀ row s₀ able s = steps - s
 
 mul-row : tie.Need-mul-row Inv-loop μ-loop
 mul-row c = search needs
@@ -54,7 +54,7 @@ loop-again c =
     let l = c .before .before .loop in (
       omega arith,
       simp length-set (l .inv .1),
-      filled-more (λ x. wordOf (fitsIn (g .columns) (g .needs .now) (g .sets .now) x) w) (w * limits .steps) (l .s) _ (l .able) (l .inv .2) (omega arith)
+      filled-more (λ x. wordOf (fitsIn (g .columns) (g .tables .now) (g .sets .now) x) w) (w * limits .steps) (l .s) _ (l .able) (l .inv .2) (omega arith)
           (c .able-word .ensures),
       (λ i h. getD-set-other (l .able) (w * limits .steps + l .s) i _ 0 (λ q. omega arith) ∙ l .inv .3 i h),
     )

@@ -12,10 +12,10 @@ use Rattle.arcs.proofs.kept_word.Lts as lts
 use Rattle.arcs.proofs.kept_part.Reads as kept-part-reads
 
 abbrev Inv-loop : tie.InvT-loop
-Inv-loop few s w first narrow lands meets rs v₀ i₀ v i = (i ≤ few) × (v ≡ keptWord narrow lands meets s w first i)
+Inv-loop few row w first narrow tables meets rs v₀ i₀ v i = (i ≤ few) × (v ≡ keptWord narrow tables meets row w first i)
 
 abbrev μ-loop : tie.MeasureT-loop
-μ-loop few s w first narrow lands meets rs v₀ i₀ v i = few - i
+μ-loop few row w first narrow tables meets rs v₀ i₀ v i = few - i
 
 mul-rs : tie.Need-mul-rs Inv-loop μ-loop
 mul-rs c = search needs

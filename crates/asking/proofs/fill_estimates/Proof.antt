@@ -28,12 +28,14 @@ loop-holds c = (omega arith, refl, sym (over-none _ _))
 
 read-state-requires : tie.Need-read-state-requires Inv-loop μ-loop
 read-state-requires c κs = let g = c .before .before .before .before .before .args in
-    (c .before .before .before .before .before .pre .1, omega arith, state-room (g .columns) (c .before .loop .k) (length (g .states .now)) (omega arith))
+    (c .before .before .before .before .before .pre .1 .wide, omega arith, state-room (g .columns) (c .before .loop .k) (length (g .states .now)) (omega arith))
 
 find-cost-requires : tie.Need-find-cost-requires Inv-loop μ-loop
 find-cost-requires c κs = let g = c .before .before .before .before .before .before .args in
     let p = c .before .before .before .before .before .before .pre in
-    (p .2, p .3, (λ i h. (omega (arith, p .1, p .6 i h), rw (c .read-state .ensures) (wide-small (g .columns) (g .states .now) (c .before .before .loop .k) (state-room (g .columns) (c .before .before .loop .k) (length (g .states .now)) (omega arith)) (p .7) _ (p .6 i h)))), p .8)
+    let k = c .before .before .loop .k in
+    let room = state-room (g .columns) k (length (g .states .now)) (omega arith) in
+    (p .0, record { each = λ i h. rw (c .read-state .ensures) (wide-small (g .columns) (g .states .now) k room (p .1 .small) _ (p .1 .there i h)) })
 
 mul-estimates : tie.Need-mul-estimates Inv-loop μ-loop
 mul-estimates c = search needs
@@ -50,7 +52,7 @@ loop-less c = search needs
 loop-again : tie.Need-loop-again Inv-loop μ-loop
 loop-again c = let g = c .before .before .before .before .before .before .before .args in
     let l = c .before .before .before .loop in
-    let e = over-more (l .k) (costAt (g .columns) (g .count) (g .cuts .now) (g .dist .now) (g .states .now)) (g .estimates .now) (omega (arith, c .before .before .before .before .before .before .before .pre .5)) in
+    let e = over-more (l .k) (costAt (g .columns) (g .count) (g .cuts .now) (g .dist .now) (g .states .now)) (g .estimates .now) (omega (arith, c .before .before .before .before .before .before .before .pre .1 .room)) in
     let r = c .find-cost .ensures ∙ ap (costFound (g .dist .now) (g .cuts .now) (g .count)) (c .before .read-state .ensures) in
     (omega arith, length-set (l .estimates) (l .k) _ ∙ l .inv .1, rw (l .inv .2, r) (sym e))
 

@@ -12,7 +12,7 @@ use Rattle.asking.proofs.find_cost.Tie as tie
 block-of-requires : tie.Need-block-of-requires
 block-of-requires c κs =
     let p = c .before .pre in
-    (record { few = p .0; long = p .1; columns = λ i h. p .2 i h .0 }, record { each = λ i h. p .2 i h .1 })
+    (p .0 .follows, p .1)
 
 cast-result : tie.Need-cast-result
 cast-result c = search needs
@@ -29,7 +29,7 @@ cast-result-2 : tie.Need-cast-result-2
 cast-result-2 c = let g = c .before .before .before .before .args in
     let l = followed-most (g .cuts .now) (g .state) (g .count) in
     let e = c .before .before .block-of .ensures .0 in
-    omega (arith, c .before .before .before .before .pre .3 (c .before .before .block-of .result .0) (omega (arith, e, l)))
+    omega (arith, c .before .before .before .before .pre .0 .costs (c .before .before .block-of .result .0) (omega (arith, e, l)))
 
 returns : tie.Need-returns
 unfolding costFound

@@ -4,14 +4,15 @@ use lib.ListN.{length}
 use Rattle.sheets.specs.Holding.{taskOn}
 use Rattle.fields.proofs.PlaceLaws.{rest-all}
 use Rattle.cut_sheets.proofs.CutSheetLaws.{front-take}
-use Rattle.cut_reading.proofs.RebuildLaws.{columns-small, wide, whole-long, whole-block, stops-model, stops-inner, stops-ten, ends}
+use Rattle.cut_reading.proofs.RebuildLaws.{whole-block, stops-model, stops-inner, stops-ten, ends}
+use Rattle.preparing.proofs.WholeLaws.{columns-small, wide, whole-long}
 use borrow.Author.Needs.{needs}
 use Rattle.cut_reading.proofs.judge_cut_sheet.Statement.{statement}
 use Rattle.cut_reading.proofs.judge_cut_sheet.Tie as tie
 use Rattle.cut_reading.proofs.judge_cut_sheet.Reads as reads
 use Rattle.cut_reading.proofs.judge_cut_sheet.Lts as lts
 use Rattle.cut_reading.proofs.at_front.Reads as at-front-reads
-use Rattle.cut_reading.proofs.fill_whole.Reads as fill-whole-reads
+use Rattle.preparing.proofs.fill_whole.Reads as fill-whole-reads
 use Rattle.cut_sheets.proofs.judge_cut_tail.Reads as judge-cut-tail-reads
 use Rattle.fields.proofs.field.field.Reads as field-reads
 use Rattle.sheets.proofs.judge_part.Reads as judge-part-reads
@@ -85,7 +86,7 @@ judge-cut-tail-requires c κs =
     let g = entry .args in
     let k = (sym (judge-sheet-at .judge-sheet .ensures) ∙ if1-at .if1 .left) in
     let w = field-at .field .ensures in
-    (columns-small (g .model .now) k w, whole-long (g .model .now) k w (g .sets .now) (entry .pre) (c .before .before .fill-whole .ensures))
+    (columns-small (g .model .now) w k, whole-long (g .model .now) w k (g .sets .now) (entry .pre) (c .before .before .fill-whole .ensures))
 
 returns-4 : tie.Need-returns-4
 returns-4 c =
@@ -98,10 +99,10 @@ returns-4 c =
     let g = entry .args in
     let k = (sym (judge-sheet-at .judge-sheet .ensures) ∙ if1-at .if1 .left) in
     let w = field-at .field .ensures in
-    ends (g .model .now) (g .sheet .now) _ k (wide (g .model .now) k w)
+    ends (g .model .now) (g .sheet .now) _ k (wide (g .model .now) w)
     (sym (at-front-at .at-front .ensures) ∙ not-false (at-front-at .at-front .result) (if3-at .if3 .left))
     (rest-all (g .sheet .now) (length (g .model .now)))
-    (c .judge-cut-tail .ensures (taskOn (g .model .now)) (wide (g .model .now) k w) (whole-block (g .model .now) k w _ (g .sets .now) (c .before .before .before .fill-whole .ensures)))
+    (c .judge-cut-tail .ensures (taskOn (g .model .now)) (wide (g .model .now) w) (whole-block (g .model .now) w _ (g .sets .now) (c .before .before .before .fill-whole .ensures)))
 
 pub judge-cut-sheet-spec : {M : Type 1} → statement M
 judge-cut-sheet-spec =

@@ -8,7 +8,7 @@ use Rattle.cut_sheets.specs.CutPart.{cutPart, cutNamed}
 use Rattle.cut_sheets.specs.CutSheet.{cutLent}
 use Rattle.cut_sheets.specs.Judged.{Made}
 use Rattle.fields.proofs.JudgingLaws.{none}
-use Rattle.cut_sheets.proofs.JudgeLaws.{Going, going-on, going-end, going-stop, there, more-long}
+use Rattle.cut_sheets.proofs.JudgeLaws.{Going, going-on, going-end, going-stop, cuttable, more-long}
 use borrow.Author.Needs.{needs}
 use Rattle.cut_sheets.proofs.judge_lent_cuts.Statement.{statement}
 use Rattle.cut_sheets.proofs.judge_lent_cuts.Tie as tie
@@ -49,8 +49,7 @@ make-cut-requires c κs =
     let p = c .before .before .before .before .before .before .before .before .pre in
     let l = c .before .before .before .before .before .before .loop in
     let g = c .before .before .before .before .before .before .before .before .args in
-    let h = there (cutLent (g .cuts .now)) (l .sets) (g .columns) (l .i) (p .1) (omega (arith, p .0)) (l .inv .0 .1) (c .before .lent-cut .ensures) (c .before .before .if1 .left) (c .before .before .before .judge-lent-cut .ensures .cut) in
-    record { wide = p .1; room = omega (arith, p .0); made = h .0; there = h .1; long = l .inv .0 .1 }
+    cuttable (cutLent (g .cuts .now)) (l .sets) (g .columns) (l .i) (p .1) (omega (arith, p .0)) (l .inv .0 .1) (c .before .lent-cut .ensures) (c .before .before .if1 .left) (c .before .before .before .judge-lent-cut .ensures .cut)
 
 add-i : tie.Need-add-i Inv-loop μ-loop
 add-i c = search needs

@@ -1,11 +1,12 @@
-use mathlib.Core.Path.{_≡_, sym, _∙_}
-use Prim.Native.Nat.{_-_, _≤_}
-use native.Mathlib.Omega.{arith}
+use Rattle.blocks.proofs.FlatLaws.{laid-none, laid-set}
+use Rattle.blocks.specs.Masks.{landsSet}
+use Rattle.blocks.specs.Flat.{rowOf, laid}
+use Rattle.task.specs.Sizes.{stepPlaces, tablePlaces, landsRow}
 use lib.ListN.{length, length-set}
-use Rattle.task.specs.Loops.{tab, over}
-use Rattle.task.proofs.LoopLaws.{over-none, over-set}
-use Rattle.blocks.specs.Masks.{landsSet, landSets}
-use Rattle.blocks.proofs.FlatLaws.{over-all}
+use Rattle.task.proofs.LoopLaws.{over-set}
+use native.Mathlib.Omega.{arith}
+use Prim.Native.Nat.{_-_, _≤_}
+use mathlib.Core.Path.{_≡_, sym}
 use borrow.Author.Needs.{needs}
 use Rattle.masks.proofs.fill_lands.Statement.{statement}
 use Rattle.masks.proofs.fill_lands.Tie as tie
@@ -14,50 +15,68 @@ use Rattle.masks.proofs.fill_lands.Lts as lts
 use Rattle.masks.proofs.land_set.Reads as land-set-reads
 
 abbrev Inv-loop : tie.InvT-loop
-Inv-loop lands₀ model i₀ lands i = (i ≤ 2048) × (length lands ≡ 2048) × (lands ≡ over (tab i (landsSet model)) lands₀)
+Inv-loop tables₀ model row i₀ tables i = (i ≤ stepPlaces) × (length tables ≡ tablePlaces) × (tables ≡ laid i (landsSet model) (rowOf landsRow) tables₀)
 
 abbrev μ-loop : tie.MeasureT-loop
-μ-loop lands₀ model i₀ lands i = 2048 - i
+μ-loop tables₀ model row i₀ tables i = stepPlaces - i
 
+-- src/lib.rt:70:15
+mul-row : tie.Need-mul-row Inv-loop μ-loop
+mul-row c = search needs
+
+-- src/lib.rt:72:5
 loop-holds : tie.Need-loop-holds Inv-loop μ-loop
-loop-holds c = (search needs, search needs, sym (over-none _ _))
+loop-holds c = (omega arith, search needs, sym (laid-none _ _ _))
 
+-- src/lib.rt:72:15
 mul-loop : tie.Need-mul-loop Inv-loop μ-loop
 mul-loop c = search needs
 
+-- src/lib.rt:73:36
 element-copy-out-land-set : tie.Need-element-copy-out-land-set Inv-loop μ-loop
 element-copy-out-land-set c = search needs
 
+-- src/lib.rt:73:51
 element-copy-out-land-set-2 : tie.Need-element-copy-out-land-set-2 Inv-loop μ-loop
 element-copy-out-land-set-2 c = search needs
 
+-- src/lib.rt:73:27
 land-set-requires : tie.Need-land-set-requires Inv-loop μ-loop
 land-set-requires c κs = search needs
 
-mul-lands : tie.Need-mul-lands Inv-loop μ-loop
-mul-lands c = search needs
+-- src/lib.rt:73:16
+add-tables : tie.Need-add-tables Inv-loop μ-loop
+add-tables c = search needs
 
-element-write-lands : tie.Need-element-write-lands Inv-loop μ-loop
-element-write-lands c = search needs
+-- src/lib.rt:73:9
+mul-tables : tie.Need-mul-tables Inv-loop μ-loop
+mul-tables c = search needs
 
+-- src/lib.rt:73:9
+element-write-tables : tie.Need-element-write-tables Inv-loop μ-loop
+element-write-tables c = search needs
+
+-- src/lib.rt:74:9
 add-i : tie.Need-add-i Inv-loop μ-loop
 add-i c = search needs
 
+-- src/lib.rt:72:5
 loop-less : tie.Need-loop-less Inv-loop μ-loop
 loop-less c = search needs
 
+-- src/lib.rt:72:5
 loop-again : tie.Need-loop-again Inv-loop μ-loop
 unfolding landsSet
 loop-again c =
     let l = c .before .before .before .before .loop in
-    (omega arith, simp length-set (l .inv .1), over-set (landsSet (c .before .before .before .before .before .args .t1)) (l .i) _ (l .lands) (c .before .before .before .before .before .args .lands .now) (l .inv .2) (omega arith) (c .land-set .ensures))
+    (omega arith, simp length-set (l .inv .1), laid-set _ _ _ (l .i) _ _ (l .inv .2) (omega arith) (c .land-set .ensures))
 
+-- src/lib.rt:66:1
 returns : tie.Need-returns Inv-loop μ-loop
-unfolding landSets
 returns c =
     let l = c .before .loop in
-    let e : l .i ≡ 2048 = omega arith in
-    (rw e at (l .inv .2)) ∙ over-all 2048 (landsSet (c .before .before .args .t1)) _ (omega arith)
+    let e : l .i ≡ stepPlaces = omega arith in
+    rw e at (l .inv .2)
 
 pub fill-lands-spec : {M : Type 1} → statement M
 fill-lands-spec =
@@ -65,13 +84,15 @@ fill-lands-spec =
     (tie.spec
     Inv-loop
     μ-loop
+    mul-row
     loop-holds
     mul-loop
     element-copy-out-land-set
     element-copy-out-land-set-2
     land-set-requires
-    mul-lands
-    element-write-lands
+    add-tables
+    mul-tables
+    element-write-tables
     add-i
     loop-less
     loop-again

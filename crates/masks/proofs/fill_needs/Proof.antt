@@ -1,11 +1,12 @@
-use mathlib.Core.Path.{_≡_, sym, _∙_}
-use Prim.Native.Nat.{_-_, _≤_}
-use native.Mathlib.Omega.{arith}
+use Rattle.blocks.proofs.FlatLaws.{laid-none, laid-set}
+use Rattle.blocks.specs.Masks.{needSet}
+use Rattle.blocks.specs.Flat.{rowOf, laid}
+use Rattle.task.specs.Sizes.{stepPlaces, tablePlaces}
 use lib.ListN.{length, length-set}
-use Rattle.task.specs.Loops.{tab, over}
-use Rattle.task.proofs.LoopLaws.{over-none, over-set}
-use Rattle.blocks.specs.Masks.{needSet, needSets}
-use Rattle.blocks.proofs.FlatLaws.{over-all}
+use Rattle.task.proofs.LoopLaws.{over-set}
+use native.Mathlib.Omega.{arith}
+use Prim.Native.Nat.{_-_, _≤_}
+use mathlib.Core.Path.{_≡_, sym}
 use borrow.Author.Needs.{needs}
 use Rattle.masks.proofs.fill_needs.Statement.{statement}
 use Rattle.masks.proofs.fill_needs.Tie as tie
@@ -14,47 +15,56 @@ use Rattle.masks.proofs.fill_needs.Lts as lts
 use Rattle.masks.proofs.mark_set.Reads as mark-set-reads
 
 abbrev Inv-loop : tie.InvT-loop
-Inv-loop needs₀ model i₀ needs i = (i ≤ 2048) × (length needs ≡ 2048) × (needs ≡ over (tab i (needSet model)) needs₀)
+Inv-loop tables₀ model i₀ tables i = (i ≤ stepPlaces) × (length tables ≡ tablePlaces) × (tables ≡ laid i (needSet model) 0 tables₀)
 
 abbrev μ-loop : tie.MeasureT-loop
-μ-loop needs₀ model i₀ needs i = 2048 - i
+μ-loop tables₀ model i₀ tables i = stepPlaces - i
 
+-- src/lib.rt:59:5
 loop-holds : tie.Need-loop-holds Inv-loop μ-loop
-loop-holds c = (search needs, search needs, sym (over-none _ _))
+loop-holds c = (omega arith, search needs, sym (laid-none _ _ _))
 
+-- src/lib.rt:59:15
 mul-loop : tie.Need-mul-loop Inv-loop μ-loop
 mul-loop c = search needs
 
+-- src/lib.rt:60:30
 element-copy-out-mark-set : tie.Need-element-copy-out-mark-set Inv-loop μ-loop
 element-copy-out-mark-set c = search needs
 
+-- src/lib.rt:60:21
 mark-set-requires : tie.Need-mark-set-requires Inv-loop μ-loop
 mark-set-requires c κs = search needs
 
-mul-needs : tie.Need-mul-needs Inv-loop μ-loop
-mul-needs c = search needs
+-- src/lib.rt:60:9
+mul-tables : tie.Need-mul-tables Inv-loop μ-loop
+mul-tables c = search needs
 
-element-write-needs : tie.Need-element-write-needs Inv-loop μ-loop
-element-write-needs c = search needs
+-- src/lib.rt:60:9
+element-write-tables : tie.Need-element-write-tables Inv-loop μ-loop
+element-write-tables c = search needs
 
+-- src/lib.rt:61:9
 add-i : tie.Need-add-i Inv-loop μ-loop
 add-i c = search needs
 
+-- src/lib.rt:59:5
 loop-less : tie.Need-loop-less Inv-loop μ-loop
 loop-less c = search needs
 
+-- src/lib.rt:59:5
 loop-again : tie.Need-loop-again Inv-loop μ-loop
 unfolding needSet
 loop-again c =
     let l = c .before .before .before .loop in
-    (omega arith, simp length-set (l .inv .1), over-set (needSet (c .before .before .before .before .args .t1)) (l .i) _ (l .needs) (c .before .before .before .before .args .needs .now) (l .inv .2) (omega arith) (c .mark-set .ensures))
+    (omega arith, simp length-set (l .inv .1), laid-set _ _ _ (l .i) _ _ (l .inv .2) (omega arith) (c .mark-set .ensures))
 
+-- src/lib.rt:54:1
 returns : tie.Need-returns Inv-loop μ-loop
-unfolding needSets
 returns c =
     let l = c .before .loop in
-    let e : l .i ≡ 2048 = omega arith in
-    (rw e at (l .inv .2)) ∙ over-all 2048 (needSet (c .before .before .args .t1)) _ (omega arith)
+    let e : l .i ≡ stepPlaces = omega arith in
+    rw e at (l .inv .2)
 
 pub fill-needs-spec : {M : Type 1} → statement M
 fill-needs-spec =
@@ -66,8 +76,8 @@ fill-needs-spec =
     mul-loop
     element-copy-out-mark-set
     mark-set-requires
-    mul-needs
-    element-write-needs
+    mul-tables
+    element-write-tables
     add-i
     loop-less
     loop-again

@@ -1,109 +1,166 @@
+use Rattle.running.proofs.RunningLaws.{sheet-refused, fine, room-refused, fits, columns-read, long, parted, ready, known, room-for-steps, path-costs, ran}
+use lib.ListN.{replicate}
+use Rattle.task.specs.Sizes.{blockPlaces}
 use native.Mathlib.Omega.{arith}
-use Rattle.unpack.proofs.GivenLaws.{given-accepted}
-use Rattle.running.proofs.RunningLaws.{sheet-refused, room-refused, fits, known, room-for-steps, path-costs, ran}
 use borrow.Author.Needs.{needs}
 use Rattle.running.proofs.run.Statement.{statement}
 use Rattle.running.proofs.run.Tie as tie
 use Rattle.running.proofs.run.Reads as reads
 use Rattle.running.proofs.run.Lts as lts
+use Rattle.preparing.proofs.fill_whole.Reads as fill-whole-reads
+use Rattle.preparing.proofs.prepare.Reads as prepare-reads
 use Rattle.refining.proofs.refine.Reads as refine-reads
 use Rattle.running.proofs.judge_room.Reads as judge-room-reads
 use Rattle.running.proofs.tell.Reads as tell-reads
-use Rattle.unpack.proofs.unpack_model.Reads as unpack-model-reads
+use Rattle.sheets.proofs.judge_sheet.Reads as judge-sheet-reads
 
-unpack-model-requires : tie.Need-unpack-model-requires
-unpack-model-requires c κs = search needs
+-- src/lib.rt:109:9
+judge-sheet-requires : tie.Need-judge-sheet-requires
+judge-sheet-requires c κs = search needs
 
+-- src/lib.rt:111:9
 returns : tie.Need-returns
 returns c = let g = c .before .before .before .before .before .args in
-    sheet-refused (g .sheet .now) (g .room) (g .cuts .now) (g .rows .now) (c .before .unpack-model .ensures) (c .if1 .taken)
+    sheet-refused (g .sheet .now) (g .room) (g .cuts .now) (g .rows .now) (c .before .judge-sheet .ensures) (c .if1 .taken)
 
+-- src/lib.rt:113:9
 judge-room-requires : tie.Need-judge-room-requires
 judge-room-requires c κs = search needs
 
+-- src/lib.rt:115:9
 same-length : tie.Need-same-length
 same-length c = search needs
 
+-- src/lib.rt:115:9
 same-length-2 : tie.Need-same-length-2
 same-length-2 c = search needs
 
+-- src/lib.rt:115:9
 returns-2 : tie.Need-returns-2
 returns-2 c = let g = c .before .before .before .before .before .before .before .before .before .args in
-    room-refused (g .sheet .now) (g .room) (g .cuts .now) (g .rows .now) (c .before .before .before .before .before .unpack-model .ensures) (c .before .before .before .before .if1 .left) (c .before .judge-room .ensures) (c .if2 .taken)
+    room-refused (g .sheet .now) (g .room) (g .cuts .now) (g .rows .now) (c .before .before .before .before .before .judge-sheet .ensures) (c .before .before .before .before .if1 .left) (c .before .judge-room .ensures) (c .if2 .taken)
 
+-- src/lib.rt:117:17
 sub-spare : tie.Need-sub-spare
 sub-spare c =
-    let if1-at = c .before .before .before .before .before in
-    let unpack-model-at = if1-at .before in
-    let entry = unpack-model-at .before .before .before .before in
-    let g = entry .args in
-    let f = fits (g .sheet .now) (g .room) (g .cuts .now) (g .rows .now) (unpack-model-at .unpack-model .ensures) (if1-at .if1 .left) (c .before .before .judge-room .ensures) (c .before .if2 .left) in
+    let g = c .before .before .before .before .before .before .before .before .before .args in
+    let f = fits (g .sheet .now) (g .room) (g .cuts .now) (g .rows .now) (c .before .before .before .before .before .judge-sheet .ensures) (c .before .before .before .before .if1 .left) (c .before .judge-room .ensures) (c .if2 .left) in
     let h = f .some in
     search (needs, h)
 
-refine-requires : tie.Need-refine-requires
-refine-requires c κs =
-    let if2-at = c .before .before .before .before in
+-- src/lib.rt:119:9
+prepare-requires : tie.Need-prepare-requires
+prepare-requires c κs = search needs
+
+-- src/lib.rt:124:5
+fill-whole-requires : tie.Need-fill-whole-requires
+fill-whole-requires c κs =
+    let if2-at = c .before .before .before .before .before in
     let judge-room-at = if2-at .before in
     let if1-at = judge-room-at .before .before .before in
-    let unpack-model-at = if1-at .before in
-    let entry = unpack-model-at .before .before .before .before in
+    let judge-sheet-at = if1-at .before in
+    let entry = judge-sheet-at .before .before .before .before in
     let g = entry .args in
-    let f = fits (g .sheet .now) (g .room) (g .cuts .now) (g .rows .now) (unpack-model-at .unpack-model .ensures) (if1-at .if1 .left) (judge-room-at .judge-room .ensures) (if2-at .if2 .left) in
-    (given-accepted (g .sheet .now) (unpack-model-at .unpack-model .ensures) (if1-at .if1 .left), omega (arith, f .few, f .some), f .cuts-fit, search needs)
+    let e = judge-sheet-at .judge-sheet .ensures in
+    let z = if1-at .if1 .left in
+    let j = judge-room-at .judge-room .ensures in
+    let k = if2-at .if2 .left in (
+      fine (g .sheet .now) (g .room) (g .cuts .now) (g .rows .now) e z,
+      columns-read (g .sheet .now) (g .room) (g .cuts .now) (g .rows .now) e z j k (c .before .before .before .prepare .ensures),
+      search needs,
+    )
 
+-- src/lib.rt:126:9
+refine-requires : tie.Need-refine-requires
+refine-requires c κs =
+    let fill-whole-at = c .before .before .before .before .before in
+    let prepare-at = fill-whole-at .before .before .before .before in
+    let if2-at = prepare-at .before .before in
+    let judge-room-at = if2-at .before in
+    let if1-at = judge-room-at .before .before .before in
+    let judge-sheet-at = if1-at .before in
+    let entry = judge-sheet-at .before .before .before .before in
+    let g = entry .args in
+    let e = judge-sheet-at .judge-sheet .ensures in
+    let z = if1-at .if1 .left in
+    let j = judge-room-at .judge-room .ensures in
+    let k = if2-at .if2 .left in
+    let p = prepare-at .prepare .ensures in
+    let n = fill-whole-at .fill-whole .ensures in
+    let f = fits (g .sheet .now) (g .room) (g .cuts .now) (g .rows .now) e z j k in (
+      (omega (arith, f .few, f .some), f .cuts-fit),
+      (
+        (long (g .sheet .now) (g .room) (g .cuts .now) (g .rows .now) e z j k p (replicate blockPlaces 0) n (search needs), search needs),
+        ready (g .sheet .now) (g .room) (g .cuts .now) (g .rows .now) e z j k p (replicate blockPlaces 0) n,
+      ),
+    )
+
+-- src/lib.rt:127:5
 tell-requires : tie.Need-tell-requires
 tell-requires c κs =
     let refine-at = c .before .before .before .before .before in
-    let if2-at = refine-at .before .before .before .before .before in
+    let fill-whole-at = refine-at .before .before .before .before .before .before in
+    let prepare-at = fill-whole-at .before .before .before .before in
+    let if2-at = prepare-at .before .before in
     let judge-room-at = if2-at .before in
     let if1-at = judge-room-at .before .before .before in
-    let unpack-model-at = if1-at .before in
-    let entry = unpack-model-at .before .before .before .before in
+    let judge-sheet-at = if1-at .before in
+    let entry = judge-sheet-at .before .before .before .before in
     let g = entry .args in
-    let e = unpack-model-at .unpack-model .ensures in
+    let e = judge-sheet-at .judge-sheet .ensures in
     let z = if1-at .if1 .left in
     let j = judge-room-at .judge-room .ensures in
     let k = if2-at .if2 .left in
-    let w = refine-at .refine .ensures .0 in (
-      known (g .sheet .now) (g .room) (g .cuts .now) (g .rows .now) e z j k w,
-      room-for-steps (g .sheet .now) (g .room) (g .cuts .now) (g .rows .now) e z j k w,
+    let p = prepare-at .prepare .ensures in
+    let n = fill-whole-at .fill-whole .ensures in
+    let w = refine-at .refine .ensures .0 _ (p .tabled) (parted (g .sheet .now) (g .room) (g .cuts .now) (g .rows .now) e z j k p (replicate blockPlaces 0) n) in (
+      known (g .sheet .now) (g .room) (g .cuts .now) (g .rows .now) e z j k p w,
+      room-for-steps (g .sheet .now) (g .room) (g .cuts .now) (g .rows .now) e z j k p w,
     )
 
+-- src/lib.rt:106:1
 same-length-3 : tie.Need-same-length-3
 same-length-3 c = search needs
 
+-- src/lib.rt:106:1
 same-length-4 : tie.Need-same-length-4
 same-length-4 c = search needs
 
+-- src/lib.rt:106:1
 returns-3 : tie.Need-returns-3
 returns-3 c =
     let refine-at = c .before .before .before .before .before .before .before .before in
-    let if2-at = refine-at .before .before .before .before .before in
+    let fill-whole-at = refine-at .before .before .before .before .before .before in
+    let prepare-at = fill-whole-at .before .before .before .before in
+    let if2-at = prepare-at .before .before in
     let judge-room-at = if2-at .before in
     let if1-at = judge-room-at .before .before .before in
-    let unpack-model-at = if1-at .before in
-    let entry = unpack-model-at .before .before .before .before in
+    let judge-sheet-at = if1-at .before in
+    let entry = judge-sheet-at .before .before .before .before in
     let g = entry .args in
-    let e = unpack-model-at .unpack-model .ensures in
+    let e = judge-sheet-at .judge-sheet .ensures in
     let z = if1-at .if1 .left in
     let j = judge-room-at .judge-room .ensures in
     let k = if2-at .if2 .left in
-    let w = refine-at .refine .ensures .0 in
-    ran (g .sheet .now) (g .room) (g .cuts .now) (g .rows .now) e z j k w
-    (c .before .before .tell .ensures _ (path-costs (g .sheet .now) (g .room) (g .cuts .now) (g .rows .now) e z j k w))
+    let p = prepare-at .prepare .ensures in
+    let n = fill-whole-at .fill-whole .ensures in
+    let w = refine-at .refine .ensures .0 _ (p .tabled) (parted (g .sheet .now) (g .room) (g .cuts .now) (g .rows .now) e z j k p (replicate blockPlaces 0) n) in
+    ran (g .sheet .now) (g .room) (g .cuts .now) (g .rows .now) e z j k p w
+    (c .before .before .tell .ensures _ (path-costs (g .sheet .now) (g .room) (g .cuts .now) (g .rows .now) e z j k p w))
 
 pub run-spec : {M : Type 1} → statement M
 run-spec =
     tie.close
     (tie.spec
-    unpack-model-requires
+    judge-sheet-requires
     returns
     judge-room-requires
     same-length
     same-length-2
     returns-2
     sub-spare
+    prepare-requires
+    fill-whole-requires
     refine-requires
     tell-requires
     same-length-3

@@ -4,6 +4,7 @@ use Rattle.arcs.specs.Words.{words}
 use Rattle.task.specs.Sizes.{limits}
 use Rattle.settling.proofs.DijkstraLaws.{all-zero}
 use Rattle.arcs.proofs.WordLaws.{met-zero}
+use Rattle.blocks.specs.Masks.{landsIn, goalsIn}
 use Rattle.settling.proofs.JoinLaws.{all-coded}
 use borrow.Author.Needs.{needs}
 use Rattle.settling.proofs.fill_distances.Statement.{statement}
@@ -28,10 +29,10 @@ start-requires c κs = search needs
 
 settle-requires : tie.Need-settle-requires
 settle-requires c κs =
-    let able = c .before .before .before .before .before .before .before .before .before in
-    let q = able .before .before .before .pre in
-    let st = c .before .before .before .before .before .before .before .start .ensures in (
-      (q .0, q .3, q .1, refl, q .2, st .1, refl, refl, refl, refl, refl),
+    let able = c .before .before .before .before .before .before .before .before .before .before in
+    let q = able .before .before .pre in
+    let st = c .before .before .before .before .before .before .before .before .start .ensures in (
+      (q .0 .columns, q .1, q .0 .steps, refl, search (needs, q .0 .steps), st .1, refl, refl, refl, refl, refl),
       (
         able .fill-able .ensures,
         (
@@ -43,14 +44,14 @@ settle-requires c κs =
 
 returns : tie.Need-returns
 returns c =
-    let started = c .before .before .before .before .before .before .before .before in
-    let entry = started .before .before .before .before .before in
+    let started = c .before .before .before .before .before .before .before .before .before in
+    let entry = started .before .before .before .before in
     let g = entry .args in
     let q = entry .pre in
     let st = started .start .ensures .0 in
     let se = c .settle .ensures .0 in (
-      (λ t tables. all-coded t (g .columns) (g .count) (g .steps) (g .needs .now) (g .lands .now) (g .goals .now) (g .costs .now) (g .sets .now) tables
-          (g .dist .now) _ (q .4) (c .settle .ensures .1) (q .3) (record { each = se .each; small = se .small; rest = λ a h. se .rest a h ∙ st .rest a h })),
+      (λ t tables. all-coded t (g .shape .columns) (g .count) (g .shape .steps) (g .tables .now) (landsIn (g .tables .now)) (goalsIn (g .tables .now)) (g .costs .now) (g .sets .now) tables
+          (g .dist .now) _ (q .2) (c .settle .ensures .1) (q .1) (record { each = se .each; small = se .small; rest = λ a h. se .rest a h ∙ st .rest a h })),
       c .settle .ensures .1,
     )
 

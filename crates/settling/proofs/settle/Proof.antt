@@ -6,6 +6,7 @@ use Rattle.task.specs.Sizes.{limits}
 use Rattle.arcs.specs.Arcs.{Arc, GoalIn, costIn}
 use Rattle.arcs.specs.Words.{heldIn, Met, words}
 use Rattle.settling.proofs.DijkstraLaws.{Inv, zeros, begin, turn, at-end, small-end, zeros-set, settled-nearest}
+use Rattle.blocks.specs.Masks.{landsIn, goalsIn}
 use borrow.Author.Needs.{needs}
 use Rattle.settling.proofs.settle.Statement.{statement}
 use Rattle.settling.proofs.settle.Tie as tie
@@ -15,14 +16,14 @@ use Rattle.settling.proofs.nearest.Reads as nearest-reads
 use Rattle.settling.proofs.relax.Reads as relax-reads
 
 abbrev Inv-loop : tie.InvT-loop
-Inv-loop columns count steps used needs lands goals costs sets able held₀ meets₀ left₀ narrow₀ done₀ dist₀ held meets left narrow done dist =
+Inv-loop columns count steps used tables costs sets able held₀ meets₀ left₀ narrow₀ done₀ dist₀ held meets left narrow done dist =
     (length held ≡ limits .columns) × (length meets ≡ limits .columns * words) × (length left ≡ words) × (length narrow ≡ limits .columns)
     × (length done ≡ limits .blocks) × (length dist ≡ limits .blocks) × Met columns used sets (heldIn held) meets
     × ((a : ℕ) → count ≤ a → getD dist a 0 ≡ getD dist₀ a 0)
-    × Inv count (Arc columns count steps needs lands sets) (GoalIn columns goals sets) (costIn costs) dist done
+    × Inv count (Arc columns count steps tables (landsIn tables) sets) (GoalIn columns (goalsIn tables) sets) (costIn costs) dist done
 
 abbrev μ-loop : tie.MeasureT-loop
-μ-loop columns count steps used needs lands goals costs sets able held₀ meets₀ left₀ narrow₀ done₀ dist₀ held meets left narrow done dist = zeros done
+μ-loop columns count steps used tables costs sets able held₀ meets₀ left₀ narrow₀ done₀ dist₀ held meets left narrow done dist = zeros done
 
 loop-holds : tie.Need-loop-holds Inv-loop μ-loop
 loop-holds c =

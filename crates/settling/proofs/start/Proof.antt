@@ -4,7 +4,7 @@ use Prim.Native.Nat.{_≤_, _-_}
 use native.Mathlib.Omega.{arith}
 use lib.ListN.{length, length-set}
 use Rattle.task.specs.Sizes.{limits}
-use Rattle.blocks.specs.Masks.{goalBy}
+use Rattle.blocks.specs.Masks.{goalsIn, goalBy}
 use Rattle.settling.specs.Ways.{noWay}
 use Rattle.settling.specs.Turns.{Started}
 use Rattle.settling.proofs.LowerLaws.{started-none, started-more}
@@ -17,7 +17,7 @@ use Rattle.masks.proofs.is_goal_block.Reads as is-goal-block-reads
 use Rattle.settling.proofs.first_value.Reads as first-value-reads
 
 abbrev Inv-loop : tie.InvT-loop
-Inv-loop columns count goals sets dist₀ a₀ dist a = (a ≤ count) × (length dist ≡ limits .blocks) × Started (goalBy columns goals sets) a dist₀ dist
+Inv-loop columns count tables sets dist₀ a₀ dist a = (a ≤ count) × (length dist ≡ limits .blocks) × Started (goalBy columns (goalsIn tables) sets) a dist₀ dist
 
 abbrev μ-loop : tie.MeasureT-loop
 μ-loop columns count goals sets dist₀ a₀ dist a = count - a

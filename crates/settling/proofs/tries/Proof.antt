@@ -3,7 +3,7 @@ use Prim.Native.Nat.{_≤_, _-_, _*_}
 use native.Mathlib.Omega.{arith}
 use lib.ListN.{length}
 use Rattle.task.specs.Sizes.{limits}
-use Rattle.blocks.specs.Masks.{leadsBy}
+use Rattle.blocks.specs.Masks.{landsIn, leadsBy}
 use Rattle.arcs.specs.Arcs.{costIn}
 use Rattle.arcs.specs.Words.{word}
 use Rattle.arcs.proofs.WordLaws.{narrow-listed}
@@ -18,11 +18,11 @@ use Rattle.settling.proofs.lower.Reads as lower-reads
 use Rattle.settling.proofs.weigh.Reads as weigh-reads
 
 abbrev Inv-loop : tie.InvT-loop
-Inv-loop columns count steps few used b needs lands costs sets able meets left narrow dist₀ base s₀ dist s =
-    (s ≤ steps) × (length dist ≡ limits .blocks) × Part count (λ x a. leadsBy columns needs lands sets x a b) (costIn costs) dist₀ dist b s
+Inv-loop columns count steps few used b tables costs sets able meets left narrow dist₀ base s₀ dist s =
+    (s ≤ steps) × (length dist ≡ limits .blocks) × Part count (λ x a. leadsBy columns tables (landsIn tables) sets x a b) (costIn costs) dist₀ dist b s
 
 abbrev μ-loop : tie.MeasureT-loop
-μ-loop columns count steps few used b needs lands costs sets able meets left narrow dist₀ base s₀ dist s = steps - s
+μ-loop columns count steps few used b tables costs sets able meets left narrow dist₀ base s₀ dist s = steps - s
 
 mul-base : tie.Need-mul-base Inv-loop μ-loop
 mul-base c = search needs
@@ -70,7 +70,7 @@ loop-again c =
       c .lower .ensures .1,
       part-more _ _ _ _ _ (l .inv .2)
           (lowered-open _ _ (o .has) _ _ (g .used * word) _ _ (omega (arith, p .0 .3))
-          (λ a h. arc-told (g .columns) (g .steps) (g .used) (g .few) (g .needs .now) (g .lands .now) (g .sets .now) (g .b) (g .able .now) (g .meets .now) (g .left .now) (g .narrow .now) (o .has) (p .1 .0) (p .1 .1 .0) (o .words-of) (p .1 .1 .1 .1) (l .s) a more (omega (arith, h)))
+          (λ a h. arc-told (g .columns) (g .steps) (g .used) (g .few) (g .tables .now) (landsIn (g .tables .now)) (g .sets .now) (g .b) (g .able .now) (g .meets .now) (g .left .now) (g .narrow .now) (o .has) (p .1 .0) (p .1 .1 .0) (o .words-of) (p .1 .1 .1 .1) (l .s) a more (omega (arith, h)))
           (o .outside)
           (λ a h e. let d = part-down _ _ _ _ _ (l .inv .2) a h in let u = o .low a h e in omega (arith, d, u))
           (rw (c .before .before .weigh .ensures .0) at (c .lower .ensures .0))),

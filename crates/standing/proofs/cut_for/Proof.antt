@@ -1,6 +1,7 @@
-use Rattle.blocks.specs.Flat.{past}
-use Rattle.blocks.specs.Blocks.{common}
 use Rattle.standing.specs.Standing.{cutBy}
+use Rattle.blocks.specs.Blocks.{common}
+use Rattle.blocks.specs.Flat.{past}
+use lib.Seq.{getD-drop}
 use borrow.Author.Needs.{needs}
 use Rattle.standing.proofs.cut_for.Statement.{statement}
 use Rattle.standing.proofs.cut_for.Tie as tie
@@ -20,24 +21,30 @@ mul-ra c = search needs
 cast-j : tie.Need-cast-j
 cast-j c = search needs
 
-add-t9 : tie.Need-add-t9
-add-t9 c = search needs
+add-t10 : tie.Need-add-t10
+add-t10 c = search needs
 
-mul-t10 : tie.Need-mul-t10
-mul-t10 c = search needs
+mul-t11 : tie.Need-mul-t11
+mul-t11 c = search needs
 
-element-copy-out-t13 : tie.Need-element-copy-out-t13
-element-copy-out-t13 c = search needs
+element-copy-out-t14 : tie.Need-element-copy-out-t14
+element-copy-out-t14 c = search needs
 
-mul-t14 : tie.Need-mul-t14
-mul-t14 c = search needs
+add-t15 : tie.Need-add-t15
+add-t15 c = search needs
 
-element-copy-out-t17 : tie.Need-element-copy-out-t17
-element-copy-out-t17 c = search needs
+mul-t16 : tie.Need-mul-t16
+mul-t16 c = search needs
+
+shared-slice-read-t18 : tie.Need-shared-slice-read-t18
+shared-slice-read-t18 c = search needs
 
 returns : tie.Need-returns
 unfolding cutBy common past
-returns c = rw (← c .before .before .before .before .lowest-off .ensures .0)
+returns c =
+    let g = c .before .before .before .before .before .before .args in
+    let o = c .before .before .before .before .lowest-off in
+    rw (← o .ensures .0, getD-drop (g .place) (g .wanted .now) (o .result .0) 0)
 
 pub cut-for-spec : {M : Type 1} → statement M
 cut-for-spec =
@@ -47,9 +54,10 @@ cut-for-spec =
     cast-ra
     mul-ra
     cast-j
-    add-t9
-    mul-t10
-    element-copy-out-t13
-    mul-t14
-    element-copy-out-t17
+    add-t10
+    mul-t11
+    element-copy-out-t14
+    add-t15
+    mul-t16
+    shared-slice-read-t18
     returns)

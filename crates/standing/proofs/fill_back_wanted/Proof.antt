@@ -1,12 +1,14 @@
-use Rattle.standing.specs.Standing.{backSet, backAt, backRow}
-use Rattle.blocks.proofs.FlatLaws.{over-all}
-use Rattle.blocks.specs.Flat.{past}
-use Rattle.task.proofs.LoopLaws.{over-none, over-set}
-use Rattle.task.specs.Loops.{tab, over}
-use lib.ListN.{length, length-set}
-use native.Mathlib.Omega.{arith}
-use Prim.Native.Nat.{_-_, _≤_}
+use Rattle.standing.proofs.RowLaws.{back-rows}
 use mathlib.Core.Path.{_≡_, sym, _∙_}
+use Prim.Native.Nat.{_-_, _≤_}
+use native.Mathlib.Omega.{arith}
+use lib.ListN.{length, length-set}
+use Rattle.task.specs.Loops.{tab, over}
+use Rattle.task.proofs.LoopLaws.{over-none, over-set}
+use Rattle.blocks.specs.Flat.{past}
+use Rattle.blocks.proofs.FlatLaws.{over-all}
+use Rattle.standing.specs.Standing.{backSet}
+use Rattle.task.specs.Sizes.{limits}
 use borrow.Author.Needs.{needs}
 use Rattle.standing.proofs.fill_back_wanted.Statement.{statement}
 use Rattle.standing.proofs.fill_back_wanted.Tie as tie
@@ -15,16 +17,25 @@ use Rattle.standing.proofs.fill_back_wanted.Lts as lts
 use Rattle.standing.proofs.back_set.Reads as back-set-reads
 
 abbrev Inv-loop : tie.InvT-loop
-Inv-loop needs lands sets wanted₀ rs rb j₀ wanted j = (j ≤ 16) × (length wanted ≡ 16) × (wanted ≡ over (tab j (λ i. backSet (past needs rs i) (past lands rs i) (past sets rb i))) wanted₀)
+Inv-loop tables sets wanted₀ need land rb j₀ wanted j = (j ≤ limits .columns) × (length wanted ≡ limits .columns) × (wanted ≡ over (tab j (λ i. backSet (past tables need i) (past tables land i) (past sets rb i))) wanted₀)
 
 abbrev μ-loop : tie.MeasureT-loop
-μ-loop needs lands sets wanted₀ rs rb j₀ wanted j = 16 - j
+μ-loop tables sets wanted₀ need land rb j₀ wanted j = limits .columns - j
 
-cast-rs : tie.Need-cast-rs Inv-loop μ-loop
-cast-rs c = search needs
+cast-need : tie.Need-cast-need Inv-loop μ-loop
+cast-need c = search needs
 
-mul-rs : tie.Need-mul-rs Inv-loop μ-loop
-mul-rs c = search needs
+mul-need : tie.Need-mul-need Inv-loop μ-loop
+mul-need c = search needs
+
+cast-land : tie.Need-cast-land Inv-loop μ-loop
+cast-land c = search needs
+
+add-land : tie.Need-add-land Inv-loop μ-loop
+add-land c = search needs
+
+mul-land : tie.Need-mul-land Inv-loop μ-loop
+mul-land c = search needs
 
 cast-rb : tie.Need-cast-rb Inv-loop μ-loop
 cast-rb c = search needs
@@ -84,11 +95,11 @@ loop-again c =
     (omega arith, simp length-set (l .inv .1), over-set _ (l .j) _ (l .wanted) _ (l .inv .2) (omega arith) (c .back-set .ensures))
 
 returns : tie.Need-returns Inv-loop μ-loop
-unfolding backRow backAt past
+unfolding past
 returns c =
     let l = c .before .loop in
-    let e : l .j ≡ 16 = omega arith in
-    (rw e at (l .inv .2)) ∙ over-all 16 _ _ (omega arith)
+    let e : l .j ≡ limits .columns = omega arith in
+    (rw e at (l .inv .2)) ∙ over-all (limits .columns) _ _ (omega arith) ∙ sym (back-rows _ (c .before .before .before .before .before .args .s .0) _ (c .before .before .before .before .before .args .b .0))
 
 pub fill-back-wanted-spec : {M : Type 1} → statement M
 fill-back-wanted-spec =
@@ -96,8 +107,11 @@ fill-back-wanted-spec =
     (tie.spec
     Inv-loop
     μ-loop
-    cast-rs
-    mul-rs
+    cast-need
+    mul-need
+    cast-land
+    add-land
+    mul-land
     cast-rb
     mul-rb
     loop-holds

@@ -1,4 +1,7 @@
 use Rattle.standing.specs.Standing.{goalAtEnd}
+use Rattle.blocks.proofs.MaskLaws.{lie-row}
+use Rattle.task.specs.Sizes.{goalRow}
+use mathlib.Core.Path.{sym, _∙_}
 use borrow.Author.Needs.{needs}
 use Rattle.standing.proofs.is_goal.Statement.{statement}
 use Rattle.standing.proofs.is_goal.Tie as tie
@@ -6,12 +9,15 @@ use Rattle.standing.proofs.is_goal.Reads as reads
 use Rattle.standing.proofs.is_goal.Lts as lts
 use Rattle.masks.proofs.all_lie.Reads as all-lie-reads
 
+mul-all-lie : tie.Need-mul-all-lie
+mul-all-lie c = search needs
+
 all-lie-requires : tie.Need-all-lie-requires
 all-lie-requires c κs = search needs
 
 returns : tie.Need-returns
 unfolding goalAtEnd
-returns c = c .all-lie .ensures
+returns c = c .all-lie .ensures ∙ sym (lie-row _ goalRow 0 _ _)
 
 pub is-goal-spec : {M : Type 1} → statement M
-is-goal-spec = tie.close (tie.spec all-lie-requires returns)
+is-goal-spec = tie.close (tie.spec mul-all-lie all-lie-requires returns)

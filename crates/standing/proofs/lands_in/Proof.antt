@@ -1,14 +1,14 @@
-use Rattle.standing.proofs.RowLaws.{lands-out, lands-inside}
-use Rattle.standing.specs.Standing.{landed, landedAt, landsBy}
-use Rattle.blocks.specs.Flat.{past}
-use Rattle.blocks.specs.Blocks.{common, isEmpty}
-use Rattle.task.proofs.LoopLaws.{all-more, all-fails}
-use Rattle.task.specs.Loops.{all}
-use lib.ListN.{getD}
-use native.Mathlib.Omega.{arith}
-use Prim.Native.Nat.{_-_, _≤_}
+use mathlib.Core.Path.{_≡_, refl, sym, _∙_}
 use mathlib.Core.Bool.{true, not}
-use mathlib.Core.Path.{_≡_, refl, sym}
+use Prim.Native.Nat.{_-_, _≤_}
+use native.Mathlib.Omega.{arith}
+use lib.ListN.{getD}
+use Rattle.task.specs.Loops.{all}
+use Rattle.task.proofs.LoopLaws.{all-more, all-fails}
+use Rattle.blocks.specs.Blocks.{common, isEmpty}
+use Rattle.blocks.specs.Flat.{past}
+use Rattle.standing.specs.Standing.{landed}
+use Rattle.standing.proofs.RowLaws.{lands-out, lands-inside, lands-rows}
 use borrow.Author.Needs.{needs}
 use Rattle.standing.proofs.lands_in.Statement.{statement}
 use Rattle.standing.proofs.lands_in.Tie as tie
@@ -17,13 +17,16 @@ use Rattle.standing.proofs.lands_in.Lts as lts
 use Rattle.standing.proofs.landed.Reads as landed-reads
 
 abbrev Inv-loop : tie.InvT-loop
-Inv-loop columns lands sets here rs rb j₀ j = (j ≤ columns) × (all j (λ i. not (isEmpty (common (landed (past lands rs i) (getD here i 0)) (past sets rb i)))) ≡ true)
+Inv-loop columns tables sets here rs rb j₀ j = (j ≤ columns) × (all j (λ i. not (isEmpty (common (landed (past tables rs i) (getD here i 0)) (past sets rb i)))) ≡ true)
 
 abbrev μ-loop : tie.MeasureT-loop
-μ-loop columns lands sets here rs rb j₀ j = columns - j
+μ-loop columns tables sets here rs rb j₀ j = columns - j
 
 cast-rs : tie.Need-cast-rs Inv-loop μ-loop
 cast-rs c = search needs
+
+add-rs : tie.Need-add-rs Inv-loop μ-loop
+add-rs c = search needs
 
 mul-rs : tie.Need-mul-rs Inv-loop μ-loop
 mul-rs c = search needs
@@ -66,8 +69,8 @@ element-copy-out-if1 : tie.Need-element-copy-out-if1 Inv-loop μ-loop
 element-copy-out-if1 c = search needs
 
 returns : tie.Need-returns Inv-loop μ-loop
-unfolding landsBy landedAt past
-returns c = sym (all-fails _ _ (c .before .before .before .before .before .before .loop .j) (c .before .before .before .before .before .loop-test .taken) (lands-out _ _ _ _ (c .before .before .landed .ensures) (c .if1 .taken)))
+unfolding past
+returns c = sym (all-fails _ _ (c .before .before .before .before .before .before .loop .j) (c .before .before .before .before .before .loop-test .taken) (lands-out _ _ _ _ (c .before .before .landed .ensures) (c .if1 .taken))) ∙ sym (lands-rows _ (c .before .before .before .before .before .before .before .before .before .args .s .0) _ _ _ (c .before .before .before .before .before .before .before .before .before .args .b .0))
 
 add-j : tie.Need-add-j Inv-loop μ-loop
 add-j c = search needs
@@ -80,11 +83,11 @@ unfolding past
 loop-again c = (omega arith, all-more _ _ (c .before .before .before .before .before .before .loop .inv .1) (lands-inside _ _ _ _ (c .before .before .landed .ensures) (c .if1 .left)))
 
 returns-2 : tie.Need-returns-2 Inv-loop μ-loop
-unfolding landsBy landedAt past
+unfolding past
 returns-2 c =
     let l = c .before .loop in
     let e : l .j ≡ c .before .before .before .before .args .columns = omega arith in
-    rw e at (sym (l .inv .1))
+    (rw e at (sym (l .inv .1))) ∙ sym (lands-rows _ (c .before .before .before .before .args .s .0) _ _ _ (c .before .before .before .before .args .b .0))
 
 pub lands-in-spec : {M : Type 1} → statement M
 lands-in-spec =
@@ -93,6 +96,7 @@ lands-in-spec =
     Inv-loop
     μ-loop
     cast-rs
+    add-rs
     mul-rs
     cast-rb
     mul-rb

@@ -1,14 +1,14 @@
-use Prim.Native.Nat.{_*_}
-use Rattle.standing.proofs.RowLaws.{landed-over}
-use lib.ListN.{getD}
-use Rattle.standing.specs.Standing.{landed, landedAt, takenBy}
-use Rattle.blocks.specs.Flat.{past}
-use Rattle.task.proofs.LoopLaws.{over-none}
-use Rattle.task.specs.Loops.{tab, over}
-use lib.ListN.{length, length-set}
+use mathlib.Core.Path.{_≡_, sym, _∙_}
+use Prim.Native.Nat.{_+_, _-_, _≤_}
 use native.Mathlib.Omega.{arith}
-use Prim.Native.Nat.{_-_, _≤_}
-use mathlib.Core.Path.{_≡_, sym}
+use lib.ListN.{length, length-set}
+use Rattle.task.specs.Loops.{tab, over}
+use Rattle.task.proofs.LoopLaws.{over-none}
+use Rattle.blocks.specs.Flat.{past, rowOf}
+use Rattle.task.specs.Sizes.{limits, landsRow}
+use Rattle.standing.specs.Standing.{landed}
+use lib.ListN.{getD}
+use Rattle.standing.proofs.RowLaws.{landed-over, taken-rows}
 use borrow.Author.Needs.{needs}
 use Rattle.standing.proofs.take.Statement.{statement}
 use Rattle.standing.proofs.take.Tie as tie
@@ -17,13 +17,16 @@ use Rattle.standing.proofs.take.Lts as lts
 use Rattle.standing.proofs.landed.Reads as landed-reads
 
 abbrev Inv-loop : tie.InvT-loop
-Inv-loop columns lands here₀ rs j₀ here j = (j ≤ columns) × (length here ≡ 16) × (here ≡ over (tab j (λ i. landed (past lands rs i) (getD here₀ i 0))) here₀)
+Inv-loop columns tables here₀ rs j₀ here j = (j ≤ columns) × (length here ≡ limits .columns) × (here ≡ over (tab j (λ i. landed (past tables rs i) (getD here₀ i 0))) here₀)
 
 abbrev μ-loop : tie.MeasureT-loop
-μ-loop columns lands here₀ rs j₀ here j = columns - j
+μ-loop columns tables here₀ rs j₀ here j = columns - j
 
 cast-rs : tie.Need-cast-rs Inv-loop μ-loop
 cast-rs c = search needs
+
+add-rs : tie.Need-add-rs Inv-loop μ-loop
+add-rs c = search needs
 
 mul-rs : tie.Need-mul-rs Inv-loop μ-loop
 mul-rs c = search needs
@@ -66,14 +69,13 @@ unfolding past
 loop-again c =
     let l = c .before .before .before .before .loop in
     let g = c .before .before .before .before .before .before .args in
-    (omega arith, simp length-set (l .inv .1), landed-over (past (g .lands .now) (g .s .0 * 16)) (l .j) _ (l .here) (g .here .now) (l .inv .2) (omega arith) (c .landed .ensures))
+    (omega arith, simp length-set (l .inv .1), landed-over (past (g .tables .now) (rowOf (landsRow + g .s .0))) (l .j) _ (l .here) (g .here .now) (l .inv .2) (omega arith) (c .landed .ensures))
 
 returns : tie.Need-returns Inv-loop μ-loop
-unfolding takenBy landedAt
 returns c =
     let l = c .before .loop in
     let e : l .j ≡ c .before .before .before .args .columns = omega arith in
-    (rw e at (l .inv .2), l .inv .1)
+    ((rw e at (l .inv .2)) ∙ sym (taken-rows _ (c .before .before .before .args .s .0) _ _), l .inv .1)
 
 pub take-spec : {M : Type 1} → statement M
 take-spec =
@@ -82,6 +84,7 @@ take-spec =
     Inv-loop
     μ-loop
     cast-rs
+    add-rs
     mul-rs
     loop-holds
     add-landed

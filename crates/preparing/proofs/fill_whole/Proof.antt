@@ -9,12 +9,12 @@ use Rattle.task.proofs.LoopLaws.{over-none, over-set}
 use Rattle.blocks.specs.Blocks.{every}
 use Rattle.sheets.specs.ModelSheet.{columnsOf}
 use Rattle.unpack.specs.Unpacking.{sizeOn}
-use Rattle.cut_reading.proofs.RebuildLaws.{wholeOn, whole-on, columns-small, size-small}
+use Rattle.preparing.proofs.WholeLaws.{wholeOn, whole-on, columns-small, size-small}
 use borrow.Author.Needs.{needs}
-use Rattle.cut_reading.proofs.fill_whole.Statement.{statement}
-use Rattle.cut_reading.proofs.fill_whole.Tie as tie
-use Rattle.cut_reading.proofs.fill_whole.Reads as reads
-use Rattle.cut_reading.proofs.fill_whole.Lts as lts
+use Rattle.preparing.proofs.fill_whole.Statement.{statement}
+use Rattle.preparing.proofs.fill_whole.Tie as tie
+use Rattle.preparing.proofs.fill_whole.Reads as reads
+use Rattle.preparing.proofs.fill_whole.Lts as lts
 use Rattle.cutting.proofs.every_position.Reads as every-position-reads
 use Rattle.fields.proofs.field.field.Reads as field-reads
 
@@ -25,7 +25,7 @@ abbrev μ-loop : tie.MeasureT-loop
 μ-loop model columns sets₀ j₀ sets j = columns - j
 
 loop-holds : tie.Need-loop-holds Inv-loop μ-loop
-loop-holds c = let p = c .before .pre in (omega arith, columns-small (c .before .args .model .now) (p .0) (p .1), p .2, sym (over-none _ _))
+loop-holds c = let p = c .before .pre in (omega arith, columns-small (c .before .args .model .now) (p .1) (p .0), p .2, sym (over-none _ _))
 
 column-bits-requires : tie.Need-column-bits-requires Inv-loop μ-loop
 column-bits-requires c κs = let i = c .before .loop .inv in omega (arith, c .loop-test .taken, i .1)
@@ -38,7 +38,7 @@ unfolding sizeOn
 cast-size c = let l = c .before .before .before .loop in
     let b = c .before .before .before .before .before in
     let m = b .args .model .now in
-    let h = size-small m (b .pre .0) (b .pre .1) (l .j) (c .before .before .loop-test .taken) (read-at m 6 (c .before .column-bits .ensures .0) (c .field .ensures)) in
+    let h = size-small m (b .pre .1) (b .pre .0) (l .j) (c .before .before .loop-test .taken) (read-at m 6 (c .before .column-bits .ensures .0) (c .field .ensures)) in
     search (needs, h)
 
 every-position-requires : tie.Need-every-position-requires Inv-loop μ-loop
@@ -46,7 +46,7 @@ unfolding sizeOn
 every-position-requires c κs = let l = c .before .before .before .loop in
     let b = c .before .before .before .before .before in
     let m = b .args .model .now in
-    size-small m (b .pre .0) (b .pre .1) (l .j) (c .before .before .loop-test .taken) (read-at m 6 (c .before .column-bits .ensures .0) (c .field .ensures))
+    size-small m (b .pre .1) (b .pre .0) (l .j) (c .before .before .loop-test .taken) (read-at m 6 (c .before .column-bits .ensures .0) (c .field .ensures))
 
 mul-sets : tie.Need-mul-sets Inv-loop μ-loop
 mul-sets c = search needs

@@ -1,10 +1,10 @@
 use Rattle.blocks.specs.Blocks.{only}
 use Rattle.blocks.proofs.MaskLaws.{shift-one}
 use borrow.Author.Needs.{needs}
-use Rattle.standing.proofs.alone.Statement.{statement}
-use Rattle.standing.proofs.alone.Tie as tie
-use Rattle.standing.proofs.alone.Reads as reads
-use Rattle.standing.proofs.alone.Lts as lts
+use Rattle.masks.proofs.alone.Statement.{statement}
+use Rattle.masks.proofs.alone.Tie as tie
+use Rattle.masks.proofs.alone.Reads as reads
+use Rattle.masks.proofs.alone.Lts as lts
 
 cast-result : tie.Need-cast-result
 cast-result c = search needs

@@ -1,0 +1,2 @@
+pub mod PreparingLaws
+pub mod WholeLaws
