@@ -73,8 +73,8 @@ fn read_state(states: &[u8], columns: usize, k: usize) -> State
     state
 }
 
-// The cost from a state's block on, from a table of distances.
-fn find_cost(count: usize, cuts: &[u32], dist: &Distances, state: State) -> u32
+// The estimate of one state: the cost from its block on, from a table of distances.
+pub fn find_cost(count: usize, cuts: &[u32], dist: &Distances, state: State) -> u32
     requires { ⌜ Measured count (now cuts) (now dist) × Placed count (now cuts) state ⌝ }
     ensures { λ r. ⌜ r ≡ costFound (now (dist .entry)) (now (cuts .entry)) count state ⌝ }
 {

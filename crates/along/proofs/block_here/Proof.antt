@@ -7,9 +7,6 @@ use Rattle.along.proofs.TurnLaws.{block-none, block-on, block-stays}
 use borrow.Author.Needs.{needs}
 use Rattle.along.proofs.block_here.Statement.{statement}
 use Rattle.along.proofs.block_here.Tie as tie
-use Rattle.along.proofs.block_here.Reads as reads
-use Rattle.along.proofs.block_here.Lts as lts
-use Rattle.along.proofs.sends_on.Reads as sends-on-reads
 
 abbrev Inv-loop : tie.InvT-loop
 Inv-loop count cuts here a₀ i₀ a i = (i ≤ count) × (a ≤ i) × (a ≡ blockBy cuts here i)
@@ -17,87 +14,66 @@ Inv-loop count cuts here a₀ i₀ a i = (i ≤ count) × (a ≤ i) × (a ≡ bl
 abbrev μ-loop : tie.MeasureT-loop
 μ-loop count cuts here a₀ i₀ a i = count - i
 
--- src/lib.rt:76:5
 loop-holds : tie.Need-loop-holds Inv-loop μ-loop
 loop-holds c = (omega arith, omega arith, block-none _ _)
 
--- src/lib.rt:77:27
 mul-column : tie.Need-mul-column Inv-loop μ-loop
 mul-column c = search needs
 
--- src/lib.rt:77:27
 add-column : tie.Need-add-column Inv-loop μ-loop
 add-column c = search needs
 
--- src/lib.rt:77:22
 mul-column-2 : tie.Need-mul-column-2 Inv-loop μ-loop
 mul-column-2 c = search needs
 
--- src/lib.rt:77:22
 shared-slice-read-column : tie.Need-shared-slice-read-column Inv-loop μ-loop
 shared-slice-read-column c = search needs
 
--- src/lib.rt:77:22
 cast-column : tie.Need-cast-column Inv-loop μ-loop
 cast-column c = let h = c .before .before .before .before .pre .columns (c .before .before .loop .i) (c .before .loop-test .taken) in search (h, needs)
 
--- src/lib.rt:78:26
 mul-sends-on : tie.Need-mul-sends-on Inv-loop μ-loop
 mul-sends-on c = search needs
 
--- src/lib.rt:78:21
 mul-sends-on-2 : tie.Need-mul-sends-on-2 Inv-loop μ-loop
 mul-sends-on-2 c = search needs
 
--- src/lib.rt:78:21
 shared-slice-read-sends-on : tie.Need-shared-slice-read-sends-on Inv-loop μ-loop
 shared-slice-read-sends-on c = search needs
 
--- src/lib.rt:78:39
 mul-sends-on-3 : tie.Need-mul-sends-on-3 Inv-loop μ-loop
 mul-sends-on-3 c = search needs
 
--- src/lib.rt:78:39
 add-sends-on : tie.Need-add-sends-on Inv-loop μ-loop
 add-sends-on c = search needs
 
--- src/lib.rt:78:34
 mul-sends-on-4 : tie.Need-mul-sends-on-4 Inv-loop μ-loop
 mul-sends-on-4 c = search needs
 
--- src/lib.rt:78:34
 shared-slice-read-sends-on-2 : tie.Need-shared-slice-read-sends-on-2 Inv-loop μ-loop
 shared-slice-read-sends-on-2 c = search needs
 
--- src/lib.rt:78:51
 mul-sends-on-5 : tie.Need-mul-sends-on-5 Inv-loop μ-loop
 mul-sends-on-5 c = let h = c .before .before .before .before .before .before .pre .columns (c .before .before .before .before .loop .i) (c .before .before .before .loop-test .taken) in search (h, needs)
 
--- src/lib.rt:78:51
 element-copy-out-sends-on : tie.Need-element-copy-out-sends-on Inv-loop μ-loop
 element-copy-out-sends-on c = c .before .before .before .before .before .before .pre .columns (c .before .before .before .before .loop .i) (c .before .before .before .loop-test .taken)
 
--- src/lib.rt:78:12
 sends-on-requires : tie.Need-sends-on-requires Inv-loop μ-loop
 sends-on-requires c κs = search needs
 
--- src/lib.rt:79:17
 cast-a : tie.Need-cast-a Inv-loop μ-loop
 cast-a c = search needs
 
--- src/lib.rt:79:17
 add-a : tie.Need-add-a Inv-loop μ-loop
 add-a c = search needs
 
--- src/lib.rt:81:9
 add-i : tie.Need-add-i Inv-loop μ-loop
 add-i c = search needs
 
--- src/lib.rt:76:5
 loop-less : tie.Need-loop-less Inv-loop μ-loop
 loop-less c = search needs
 
--- src/lib.rt:76:5
 loop-again : tie.Need-loop-again Inv-loop μ-loop
 unfolding sendsOn
 loop-again c = let l = c .before .before .before .before .before .before .before .loop in
@@ -108,11 +84,9 @@ loop-again c = let l = c .before .before .before .before .before .before .before
       ⊎-elim (λ w. w .1 ∙ block-on (g .cuts .now) (g .here .now) (l .i) (l .a) _ (l .inv .2) t (w .0 .taken)) (λ w. w .1 ∙ block-stays (g .cuts .now) (g .here .now) (l .i) (l .a) _ (l .inv .2) t (w .0 .left)) (c .if1 .came),
     )
 
--- src/lib.rt:83:11
 cast-t24 : tie.Need-cast-t24 Inv-loop μ-loop
 cast-t24 c = search needs
 
--- src/lib.rt:70:1
 returns : tie.Need-returns Inv-loop μ-loop
 returns c = let g = c .before .before .before .args in
     let l = c .before .loop in

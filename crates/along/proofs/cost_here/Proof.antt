@@ -7,32 +7,23 @@ use Rattle.along.specs.Along.{costBy}
 use borrow.Author.Needs.{needs}
 use Rattle.along.proofs.cost_here.Statement.{statement}
 use Rattle.along.proofs.cost_here.Tie as tie
-use Rattle.along.proofs.cost_here.Reads as reads
-use Rattle.along.proofs.cost_here.Lts as lts
-use Rattle.along.proofs.block_here.Reads as block-here-reads
 
--- src/lib.rt:96:9
 block-here-requires : tie.Need-block-here-requires
 block-here-requires c κs = c .before .pre .follows
 
--- src/lib.rt:97:11
 cast-result : tie.Need-cast-result
 cast-result c = search needs
 
--- src/lib.rt:97:6
 mul-result : tie.Need-mul-result
 mul-result c = search needs
 
--- src/lib.rt:97:6
 element-copy-out-result : tie.Need-element-copy-out-result
 element-copy-out-result c = let p = c .before .before .before .pre in search (needs, p .follows .few, c .before .block-here .ensures .1)
 
--- src/lib.rt:97:5
 cast-result-2 : tie.Need-cast-result-2
 cast-result-2 c = let p = c .before .before .before .before .pre in
     omega (arith, p .costs (c .before .before .block-here .result .0) (c .before .before .block-here .ensures .1))
 
--- src/lib.rt:87:1
 returns : tie.Need-returns
 unfolding costBy
 returns c = let g = c .before .before .before .before .args in

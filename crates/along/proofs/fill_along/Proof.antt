@@ -11,10 +11,6 @@ use Rattle.along.proofs.TurnLaws.{here-none, here-more, cost-after}
 use borrow.Author.Needs.{needs}
 use Rattle.along.proofs.fill_along.Statement.{statement}
 use Rattle.along.proofs.fill_along.Tie as tie
-use Rattle.along.proofs.fill_along.Reads as reads
-use Rattle.along.proofs.fill_along.Lts as lts
-use Rattle.along.proofs.cost_here.Reads as cost-here-reads
-use Rattle.standing.proofs.take.Reads as take-reads
 
 abbrev Inv-loop : tie.InvT-loop
 Inv-loop columns tables count cuts dist log here₀ estimates₀ i₀ here estimates i =
@@ -24,49 +20,38 @@ Inv-loop columns tables count cuts dist log here₀ estimates₀ i₀ here estim
 abbrev μ-loop : tie.MeasureT-loop
 μ-loop columns tables count cuts dist log here₀ estimates₀ i₀ here estimates i = length log - i
 
--- src/lib.rt:119:5
 loop-holds : tie.Need-loop-holds Inv-loop μ-loop
 loop-holds c = (omega arith, search needs, search needs, here-none _ _ _ _, sym (over-none _ _))
 
--- src/lib.rt:120:24
 cost-here-requires : tie.Need-cost-here-requires Inv-loop μ-loop
 cost-here-requires c κs = c .before .before .before .before .before .pre .1 .1
 
--- src/lib.rt:120:9
 mul-estimates : tie.Need-mul-estimates Inv-loop μ-loop
 mul-estimates c = search needs
 
--- src/lib.rt:120:9
 element-write-estimates : tie.Need-element-write-estimates Inv-loop μ-loop
 element-write-estimates c = search needs
 
--- src/lib.rt:121:28
 mul-t10 : tie.Need-mul-t10 Inv-loop μ-loop
 mul-t10 c = search needs
 
--- src/lib.rt:121:28
 shared-slice-read-t12 : tie.Need-shared-slice-read-t12 Inv-loop μ-loop
 shared-slice-read-t12 c = search needs
 
--- src/lib.rt:121:28
 cast-t18 : tie.Need-cast-t18 Inv-loop μ-loop
 cast-t18 c = let h = c .before .before .before .before .before .before .before .pre .1 .0 (c .before .before .before .before .loop .i) (c .before .before .before .loop-test .taken) in search (h, needs)
 
--- src/lib.rt:121:9
 take-requires : tie.Need-take-requires Inv-loop μ-loop
 take-requires c κs = let p = c .before .before .before .before .before .before .before .before .pre in
     let l = c .before .before .before .before .before .loop in
     (p .0 .0, p .1 .0 (l .i) (c .before .before .before .before .loop-test .taken), l .inv .1)
 
--- src/lib.rt:122:9
 add-i : tie.Need-add-i Inv-loop μ-loop
 add-i c = search needs
 
--- src/lib.rt:119:5
 loop-less : tie.Need-loop-less Inv-loop μ-loop
 loop-less c = search needs
 
--- src/lib.rt:119:5
 loop-again : tie.Need-loop-again Inv-loop μ-loop
 loop-again c = let g = c .before .before .before .before .before .before .before .before .before .args in
     let p = c .before .before .before .before .before .before .before .before .before .pre in
@@ -79,19 +64,15 @@ loop-again c = let g = c .before .before .before .before .before .before .before
           (cost-after (g .columns) (landsIn (g .tables .now)) (g .count) (g .cuts .now) (g .dist .now) (g .log .now) (g .here .now) (l .i) (l .inv .3) (c .before .before .before .cost-here .ensures)),
     )
 
--- src/lib.rt:124:20
 cost-here-requires-2 : tie.Need-cost-here-requires-2 Inv-loop μ-loop
 cost-here-requires-2 c κs = c .before .before .before .before .before .pre .1 .1
 
--- src/lib.rt:124:5
 mul-estimates-2 : tie.Need-mul-estimates-2 Inv-loop μ-loop
 mul-estimates-2 c = search needs
 
--- src/lib.rt:124:5
 element-write-estimates-2 : tie.Need-element-write-estimates-2 Inv-loop μ-loop
 element-write-estimates-2 c = omega (arith, c .before .before .before .loop .inv .0, c .before .before .before .before .before .before .pre .0 .2)
 
--- src/lib.rt:101:1
 returns : tie.Need-returns Inv-loop μ-loop
 returns c = let g = c .before .before .before .before .before .before .args in
     let p = c .before .before .before .before .before .before .pre in

@@ -13,10 +13,6 @@ use borrow.Author.Tests.{not-true, not-false}
 use borrow.Author.Needs.{needs}
 use Rattle.along.proofs.judge_log.Statement.{statement}
 use Rattle.along.proofs.judge_log.Tie as tie
-use Rattle.along.proofs.judge_log.Reads as reads
-use Rattle.along.proofs.judge_log.Lts as lts
-use Rattle.along.proofs.may_go.Reads as may-go-reads
-use Rattle.standing.proofs.take.Reads as take-reads
 
 abbrev Inv-loop : tie.InvT-loop
 Inv-loop tables log here₀ columns steps i₀ here i =
@@ -25,40 +21,32 @@ Inv-loop tables log here₀ columns steps i₀ here i =
 abbrev μ-loop : tie.MeasureT-loop
 μ-loop tables log here₀ columns steps i₀ here i = length log - i
 
--- src/lib.rt:48:5
 loop-holds : tie.Need-loop-holds Inv-loop μ-loop
 loop-holds c = (omega arith, search needs, here-none _ _ _ _, first-nothing _)
 
--- src/lib.rt:49:17
 mul-s : tie.Need-mul-s Inv-loop μ-loop
 mul-s c = search needs
 
--- src/lib.rt:49:17
 shared-slice-read-s : tie.Need-shared-slice-read-s Inv-loop μ-loop
 shared-slice-read-s c = search needs
 
--- src/lib.rt:50:13
 may-go-requires : tie.Need-may-go-requires Inv-loop μ-loop
 may-go-requires c κs = search needs
 
--- src/lib.rt:51:20
 add-result : tie.Need-add-result Inv-loop μ-loop
 add-result c = search needs
 
--- src/lib.rt:51:13
 returns : tie.Need-returns Inv-loop μ-loop
 returns c = let g = c .before .before .before .before .before .before .before .args in
     let l = c .before .before .before .before .before .loop in
     stopped (g .shape .columns) (g .shape .steps) (g .tables .now) (landsIn (g .tables .now)) (g .log .now) (g .here .now) (l .i) (c .before .before .before .before .loop-test .taken) (l .inv .3) (l .inv .2) (c .before .may-go .ensures) (not-true _ (c .if1 .taken))
 
--- src/lib.rt:53:28
 cast-t16 : tie.Need-cast-t16 Inv-loop μ-loop
 cast-t16 c = let g = c .before .before .before .before .before .before .before .args in
     let l = c .before .before .before .before .before .loop in
     let k = small (g .shape .columns) (g .shape .steps) (g .tables .now) (l .here) _ (c .before .may-go .ensures) (not-false _ (c .if1 .left)) in
     search (needs, k)
 
--- src/lib.rt:53:9
 take-requires : tie.Need-take-requires Inv-loop μ-loop
 take-requires c κs = let g = c .before .before .before .before .before .before .before .before .args in
     let p = c .before .before .before .before .before .before .before .before .pre in
@@ -66,15 +54,12 @@ take-requires c κs = let g = c .before .before .before .before .before .before 
     let k = small (g .shape .columns) (g .shape .steps) (g .tables .now) (l .here) _ (c .before .before .may-go .ensures) (not-false _ (c .before .if1 .left)) in
     (p .0 .columns, omega (arith, k, p .0 .steps), l .inv .1)
 
--- src/lib.rt:54:9
 add-i : tie.Need-add-i Inv-loop μ-loop
 add-i c = search needs
 
--- src/lib.rt:48:5
 loop-less : tie.Need-loop-less Inv-loop μ-loop
 loop-less c = search needs
 
--- src/lib.rt:48:5
 loop-again : tie.Need-loop-again Inv-loop μ-loop
 loop-again c = let g = c .before .before .before .before .before .before .before .before .before .args in
     let l = c .before .before .before .before .before .before .before .loop in (
@@ -84,7 +69,6 @@ loop-again c = let g = c .before .before .before .before .before .before .before
       went (g .shape .columns) (g .shape .steps) (g .tables .now) (landsIn (g .tables .now)) (g .log .now) (g .here .now) (l .i) (l .inv .3) (l .inv .2) (c .before .before .before .may-go .ensures) (not-false _ (c .before .before .if1 .left)),
     )
 
--- src/lib.rt:36:1
 returns-2 : tie.Need-returns-2 Inv-loop μ-loop
 returns-2 c = let g = c .before .before .before .args in
     let l = c .before .loop in

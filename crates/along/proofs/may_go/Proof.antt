@@ -2,27 +2,19 @@ use Rattle.along.proofs.TurnLaws.{unknown, known}
 use borrow.Author.Needs.{needs}
 use Rattle.along.proofs.may_go.Statement.{statement}
 use Rattle.along.proofs.may_go.Tie as tie
-use Rattle.along.proofs.may_go.Reads as reads
-use Rattle.along.proofs.may_go.Lts as lts
-use Rattle.standing.proofs.can_take.Reads as can-take-reads
 
--- src/lib.rt:29:8
 cast-if1 : tie.Need-cast-if1
 cast-if1 c = search needs
 
--- src/lib.rt:30:9
 returns : tie.Need-returns
 returns c = let g = c .before .args in unknown (g .columns) (g .steps) (g .tables .now) (g .here .now) (g .s) (c .if1 .taken)
 
--- src/lib.rt:32:28
 cast-t8 : tie.Need-cast-t8
 cast-t8 c = search needs
 
--- src/lib.rt:32:5
 can-take-requires : tie.Need-can-take-requires
 can-take-requires c κs = search needs
 
--- src/lib.rt:19:1
 returns-2 : tie.Need-returns-2
 returns-2 c = let g = c .before .before .args in known (g .columns) (g .steps) (g .tables .now) (g .here .now) (g .s) (c .before .if1 .left) (c .can-take .ensures)
 

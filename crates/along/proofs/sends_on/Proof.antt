@@ -1,15 +1,10 @@
-use borrow.Author.Needs.{needs}
 use Rattle.along.proofs.TurnLaws.{elsewhere, same-block}
 use Rattle.along.proofs.sends_on.Statement.{statement}
 use Rattle.along.proofs.sends_on.Tie as tie
-use Rattle.along.proofs.sends_on.Reads as reads
-use Rattle.along.proofs.sends_on.Lts as lts
 
--- src/lib.rt:64:9
 returns : tie.Need-returns
 returns c = let g = c .before .args in elsewhere (g .block) (g .wanted) (g .here) (g .a) (c .if1 .taken)
 
--- src/lib.rt:60:1
 returns-2 : tie.Need-returns-2
 returns-2 c = let g = c .before .args in same-block (g .block) (g .wanted) (g .here) (g .a) (c .if1 .left)
 

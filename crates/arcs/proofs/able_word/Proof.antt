@@ -8,9 +8,6 @@ use Rattle.arcs.proofs.WordLaws.{fits-none, fits-more}
 use borrow.Author.Needs.{needs}
 use Rattle.arcs.proofs.able_word.Statement.{statement}
 use Rattle.arcs.proofs.able_word.Tie as tie
-use Rattle.arcs.proofs.able_word.Reads as reads
-use Rattle.arcs.proofs.able_word.Lts as lts
-use Rattle.arcs.proofs.with_need.Reads as with-need-reads
 
 abbrev Inv-loop : tie.InvT-loop
 Inv-loop columns s w tables sets rs v₀ j₀ v j = (j ≤ columns) × (v ≡ wordOf (fitsIn j tables sets s) w)

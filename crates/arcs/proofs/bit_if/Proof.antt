@@ -3,8 +3,6 @@ use Rattle.blocks.proofs.MaskLaws.{shift-one}
 use borrow.Author.Needs.{needs}
 use Rattle.arcs.proofs.bit_if.Statement.{statement}
 use Rattle.arcs.proofs.bit_if.Tie as tie
-use Rattle.arcs.proofs.bit_if.Reads as reads
-use Rattle.arcs.proofs.bit_if.Lts as lts
 
 cast-result : tie.Need-cast-result
 cast-result c = search needs

@@ -8,9 +8,6 @@ use Rattle.arcs.proofs.WordLaws.{able-none, able-more}
 use borrow.Author.Needs.{needs}
 use Rattle.arcs.proofs.fill_able.Statement.{statement}
 use Rattle.arcs.proofs.fill_able.Tie as tie
-use Rattle.arcs.proofs.fill_able.Reads as reads
-use Rattle.arcs.proofs.fill_able.Lts as lts
-use Rattle.arcs.proofs.fill_row.Reads as fill-row-reads
 
 abbrev Inv-loop : tie.InvT-loop
 Inv-loop columns steps used tables sets able₀ w₀ able w = (w ≤ used) × (length able ≡ words * limits .steps) × Able columns steps tables sets w able

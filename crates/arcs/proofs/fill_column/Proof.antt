@@ -10,9 +10,6 @@ use Rattle.arcs.proofs.WordLaws.{filled-more}
 use borrow.Author.Needs.{needs}
 use Rattle.arcs.proofs.fill_column.Statement.{statement}
 use Rattle.arcs.proofs.fill_column.Tie as tie
-use Rattle.arcs.proofs.fill_column.Reads as reads
-use Rattle.arcs.proofs.fill_column.Lts as lts
-use Rattle.arcs.proofs.meet_word.Reads as meet-word-reads
 
 abbrev Inv-loop : tie.InvT-loop
 Inv-loop used j set sets meets₀ row w₀ meets w =

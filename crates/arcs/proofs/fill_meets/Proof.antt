@@ -10,9 +10,6 @@ use Rattle.arcs.proofs.WordLaws.{filled-first, met-row, met-same, met-m
 use borrow.Author.Needs.{needs}
 use Rattle.arcs.proofs.fill_meets.Statement.{statement}
 use Rattle.arcs.proofs.fill_meets.Tie as tie
-use Rattle.arcs.proofs.fill_meets.Reads as reads
-use Rattle.arcs.proofs.fill_meets.Lts as lts
-use Rattle.arcs.proofs.renew_column.Reads as renew-column-reads
 
 abbrev Inv-loop : tie.InvT-loop
 Inv-loop columns used b sets held₀ meets₀ rb j₀ held meets j =

@@ -8,10 +8,6 @@ use Rattle.arcs.proofs.WordLaws.{narrow-none, narrow-more}
 use borrow.Author.Needs.{needs}
 use Rattle.arcs.proofs.fill_narrow.Statement.{statement}
 use Rattle.arcs.proofs.fill_narrow.Tie as tie
-use Rattle.arcs.proofs.fill_narrow.Reads as reads
-use Rattle.arcs.proofs.fill_narrow.Lts as lts
-use Rattle.arcs.proofs.is_wide.Reads as is-wide-reads
-use Rattle.arcs.proofs.one_unless.Reads as one-unless-reads
 
 abbrev Inv-loop : tie.InvT-loop
 Inv-loop columns used meets left narrow₀ few₀ j₀ narrow few j = (j ≤ columns) × (length narrow ≡ limits .columns) × Narrow j used meets left few narrow

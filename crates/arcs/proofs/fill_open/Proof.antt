@@ -8,9 +8,6 @@ use Rattle.arcs.proofs.WordLaws.{filled-first}
 use borrow.Author.Needs.{needs}
 use Rattle.arcs.proofs.fill_open.Statement.{statement}
 use Rattle.arcs.proofs.fill_open.Tie as tie
-use Rattle.arcs.proofs.fill_open.Reads as reads
-use Rattle.arcs.proofs.fill_open.Lts as lts
-use Rattle.arcs.proofs.open_word.Reads as open-word-reads
 
 abbrev Inv-loop : tie.InvT-loop
 Inv-loop count used done left₀ w₀ left w = (w ≤ used) × (length left ≡ words) × ((x : ℕ) → x < w → getD left x 0 ≡ wordOf (openIn count done) x)

@@ -11,9 +11,6 @@ use Rattle.arcs.proofs.WordLaws.{filled-more}
 use borrow.Author.Needs.{needs}
 use Rattle.arcs.proofs.fill_row.Statement.{statement}
 use Rattle.arcs.proofs.fill_row.Tie as tie
-use Rattle.arcs.proofs.fill_row.Reads as reads
-use Rattle.arcs.proofs.fill_row.Lts as lts
-use Rattle.arcs.proofs.able_word.Reads as able-word-reads
 
 abbrev Inv-loop : tie.InvT-loop
 Inv-loop columns steps w tables sets able₀ row s₀ able s =

@@ -2,9 +2,6 @@ use Rattle.arcs.specs.Arcs.{fitsIn}
 use borrow.Author.Needs.{needs}
 use Rattle.arcs.proofs.fits_in.Statement.{statement}
 use Rattle.arcs.proofs.fits_in.Tie as tie
-use Rattle.arcs.proofs.fits_in.Reads as reads
-use Rattle.arcs.proofs.fits_in.Lts as lts
-use Rattle.masks.proofs.all_lie.Reads as all-lie-reads
 
 mul-rs : tie.Need-mul-rs
 mul-rs c = search needs

@@ -2,9 +2,6 @@ use Rattle.arcs.specs.Words.{bitAt}
 use borrow.Author.Needs.{needs}
 use Rattle.arcs.proofs.has_bit.Statement.{statement}
 use Rattle.arcs.proofs.has_bit.Tie as tie
-use Rattle.arcs.proofs.has_bit.Reads as reads
-use Rattle.arcs.proofs.has_bit.Lts as lts
-use Rattle.arcs.proofs.bit_if.Reads as bit-if-reads
 
 bit-if-requires : tie.Need-bit-if-requires
 bit-if-requires c κs = search needs

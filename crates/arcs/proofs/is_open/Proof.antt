@@ -6,8 +6,6 @@ use borrow.Author.Tests.{lt-ltb, le-ltb}
 use borrow.Author.Needs.{needs}
 use Rattle.arcs.proofs.is_open.Statement.{statement}
 use Rattle.arcs.proofs.is_open.Tie as tie
-use Rattle.arcs.proofs.is_open.Reads as reads
-use Rattle.arcs.proofs.is_open.Lts as lts
 
 returns : tie.Need-returns
 unfolding openIn

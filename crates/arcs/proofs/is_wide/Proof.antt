@@ -2,9 +2,6 @@ use Rattle.arcs.specs.Words.{wideIn}
 use borrow.Author.Needs.{needs}
 use Rattle.arcs.proofs.is_wide.Statement.{statement}
 use Rattle.arcs.proofs.is_wide.Tie as tie
-use Rattle.arcs.proofs.is_wide.Reads as reads
-use Rattle.arcs.proofs.is_wide.Lts as lts
-use Rattle.masks.proofs.all_lie.Reads as all-lie-reads
 
 mul-row : tie.Need-mul-row
 mul-row c = search needs

@@ -3,8 +3,6 @@ use Rattle.blocks.specs.Blocks.{isEmpty}
 use borrow.Author.Tests.{eq-eqb, ne-eqb}
 use Rattle.arcs.proofs.kept_part.Statement.{statement}
 use Rattle.arcs.proofs.kept_part.Tie as tie
-use Rattle.arcs.proofs.kept_part.Reads as reads
-use Rattle.arcs.proofs.kept_part.Lts as lts
 
 returns : tie.Need-returns
 unfolding keptPart isEmpty

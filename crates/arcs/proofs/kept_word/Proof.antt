@@ -7,9 +7,6 @@ use mathlib.Core.Path.{_≡_, sym, _∙_}
 use borrow.Author.Needs.{needs}
 use Rattle.arcs.proofs.kept_word.Statement.{statement}
 use Rattle.arcs.proofs.kept_word.Tie as tie
-use Rattle.arcs.proofs.kept_word.Reads as reads
-use Rattle.arcs.proofs.kept_word.Lts as lts
-use Rattle.arcs.proofs.kept_part.Reads as kept-part-reads
 
 abbrev Inv-loop : tie.InvT-loop
 Inv-loop few row w first narrow tables meets rs v₀ i₀ v i = (i ≤ few) × (v ≡ keptWord narrow tables meets row w first i)

@@ -8,9 +8,6 @@ use Rattle.blocks.specs.Blocks.{common, isEmpty}
 use borrow.Author.Needs.{needs}
 use Rattle.arcs.proofs.meet_word.Statement.{statement}
 use Rattle.arcs.proofs.meet_word.Tie as tie
-use Rattle.arcs.proofs.meet_word.Reads as reads
-use Rattle.arcs.proofs.meet_word.Lts as lts
-use Rattle.arcs.proofs.bit_if.Reads as bit-if-reads
 
 abbrev Inv-loop : tie.InvT-loop
 Inv-loop w j set sets v₀ i₀ v i = Begun (meetsIn sets set j) w i v

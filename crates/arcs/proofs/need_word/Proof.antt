@@ -6,10 +6,6 @@ use Rattle.blocks.specs.Flat.{past}
 use borrow.Author.Needs.{needs}
 use Rattle.arcs.proofs.need_word.Statement.{statement}
 use Rattle.arcs.proofs.need_word.Tie as tie
-use Rattle.arcs.proofs.need_word.Reads as reads
-use Rattle.arcs.proofs.need_word.Lts as lts
-use Rattle.masks.proofs.lies.Reads as lies-reads
-use Rattle.arcs.proofs.bit_if.Reads as bit-if-reads
 
 abbrev Inv-loop : tie.InvT-loop
 Inv-loop w j need sets v₀ i₀ v i = Begun (needIn sets need j) w i v

@@ -5,10 +5,6 @@ use Rattle.arcs.proofs.WordLaws.{Begun, begun-none, begun-more, begun-r
 use borrow.Author.Needs.{needs}
 use Rattle.arcs.proofs.open_word.Statement.{statement}
 use Rattle.arcs.proofs.open_word.Tie as tie
-use Rattle.arcs.proofs.open_word.Reads as reads
-use Rattle.arcs.proofs.open_word.Lts as lts
-use Rattle.arcs.proofs.bit_if.Reads as bit-if-reads
-use Rattle.arcs.proofs.is_open.Reads as is-open-reads
 
 abbrev Inv-loop : tie.InvT-loop
 Inv-loop count w done v₀ i₀ v i = Begun (openIn count done) w i v

@@ -2,9 +2,6 @@ use Rattle.arcs.proofs.WordLaws.{row-same}
 use borrow.Author.Needs.{needs}
 use Rattle.arcs.proofs.renew_column.Statement.{statement}
 use Rattle.arcs.proofs.renew_column.Tie as tie
-use Rattle.arcs.proofs.renew_column.Reads as reads
-use Rattle.arcs.proofs.renew_column.Lts as lts
-use Rattle.arcs.proofs.fill_column.Reads as fill-column-reads
 
 returns : tie.Need-returns
 returns c = (row-same _ _ _ _ _ _ (c .if1 .taken) (c .before .pre .1), search needs)

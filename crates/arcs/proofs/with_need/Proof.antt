@@ -3,9 +3,6 @@ use Rattle.arcs.proofs.WordLaws.{no-need}
 use borrow.Author.Needs.{needs}
 use Rattle.arcs.proofs.with_need.Statement.{statement}
 use Rattle.arcs.proofs.with_need.Tie as tie
-use Rattle.arcs.proofs.with_need.Reads as reads
-use Rattle.arcs.proofs.with_need.Lts as lts
-use Rattle.arcs.proofs.need_word.Reads as need-word-reads
 
 returns : tie.Need-returns
 returns c = rw (c .if1 .taken)

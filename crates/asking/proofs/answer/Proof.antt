@@ -7,10 +7,6 @@ use Rattle.asking.specs.Question.{statesIn}
 use borrow.Author.Needs.{needs}
 use Rattle.asking.proofs.answer.Statement.{statement}
 use Rattle.asking.proofs.answer.Tie as tie
-use Rattle.asking.proofs.answer.Reads as reads
-use Rattle.asking.proofs.answer.Lts as lts
-use Rattle.asking.proofs.fill_estimates.Reads as fill-estimates-reads
-use Rattle.asking.proofs.measure.Reads as measure-reads
 
 slice-aggregate-measure : tie.Need-slice-aggregate-measure
 slice-aggregate-measure c = search needs

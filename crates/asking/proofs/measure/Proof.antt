@@ -1,11 +1,6 @@
 use borrow.Author.Needs.{needs}
 use Rattle.asking.proofs.measure.Statement.{statement}
 use Rattle.asking.proofs.measure.Tie as tie
-use Rattle.asking.proofs.measure.Reads as reads
-use Rattle.asking.proofs.measure.Lts as lts
-use Rattle.cut_reading.proofs.fill_cuts.Reads as fill-cuts-reads
-use Rattle.cut_sheets.proofs.cut_count.Reads as cut-count-reads
-use Rattle.settling.proofs.fill_distances.Reads as fill-distances-reads
 
 cut-count-requires : tie.Need-cut-count-requires
 cut-count-requires c κs = search needs

@@ -3,12 +3,6 @@ use Rattle.asking.proofs.AskingLaws.{sheets-refused, within, model-fine
 use borrow.Author.Needs.{needs}
 use Rattle.asking.proofs.question.Statement.{statement}
 use Rattle.asking.proofs.question.Tie as tie
-use Rattle.asking.proofs.question.Reads as reads
-use Rattle.asking.proofs.question.Lts as lts
-use Rattle.asking.proofs.answer.Reads as answer-reads
-use Rattle.asking.proofs.judge_states.Reads as judge-states-reads
-use Rattle.cut_reading.proofs.judge_cut_sheet.Reads as judge-cut-sheet-reads
-use Rattle.preparing.proofs.prepare.Reads as prepare-reads
 
 judge-cut-sheet-requires : tie.Need-judge-cut-sheet-requires
 judge-cut-sheet-requires c κs = search needs

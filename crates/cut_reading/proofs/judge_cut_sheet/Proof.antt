@@ -9,14 +9,6 @@ use Rattle.preparing.proofs.WholeLaws.{columns-small, wide, whole-long}
 use borrow.Author.Needs.{needs}
 use Rattle.cut_reading.proofs.judge_cut_sheet.Statement.{statement}
 use Rattle.cut_reading.proofs.judge_cut_sheet.Tie as tie
-use Rattle.cut_reading.proofs.judge_cut_sheet.Reads as reads
-use Rattle.cut_reading.proofs.judge_cut_sheet.Lts as lts
-use Rattle.cut_reading.proofs.at_front.Reads as at-front-reads
-use Rattle.preparing.proofs.fill_whole.Reads as fill-whole-reads
-use Rattle.cut_sheets.proofs.judge_cut_tail.Reads as judge-cut-tail-reads
-use Rattle.fields.proofs.field.field.Reads as field-reads
-use Rattle.sheets.proofs.judge_part.Reads as judge-part-reads
-use Rattle.sheets.proofs.judge_sheet.Reads as judge-sheet-reads
 
 judge-sheet-requires : tie.Need-judge-sheet-requires
 judge-sheet-requires c κs = search needs

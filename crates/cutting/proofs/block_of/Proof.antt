@@ -10,10 +10,6 @@ use mathlib.Core.Path.{_≡_, sym, ap, _∙_}
 use borrow.Author.Needs.{needs}
 use Rattle.cutting.proofs.block_of.Statement.{statement}
 use Rattle.cutting.proofs.block_of.Tie as tie
-use Rattle.cutting.proofs.block_of.Reads as reads
-use Rattle.cutting.proofs.block_of.Lts as lts
-use Rattle.cutting.proofs.goes_on.Reads as goes-on-reads
-use Rattle.cutting.proofs.next_number.Reads as next-number-reads
 
 abbrev Inv-loop : tie.InvT-loop
 Inv-loop count cuts state a₀ i₀ a i = (i ≤ count) × (a ≤ i) × (a ≡ followed cuts state i)

@@ -9,8 +9,6 @@ use Rattle.blocks.proofs.FlatLaws.{laid-none, laid-more, laid-outside}
 use borrow.Author.Needs.{needs}
 use Rattle.cutting.proofs.copy_row.Statement.{statement}
 use Rattle.cutting.proofs.copy_row.Tie as tie
-use Rattle.cutting.proofs.copy_row.Reads as reads
-use Rattle.cutting.proofs.copy_row.Lts as lts
 
 abbrev Inv-loop : tie.InvT-loop
 Inv-loop columns here there sets₀ j₀ sets j = (j ≤ columns) × (length sets ≡ blockPlaces) × (sets ≡ laid j (past sets₀ here) there sets₀)

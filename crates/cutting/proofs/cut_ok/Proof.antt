@@ -4,9 +4,6 @@ use Rattle.blocks.proofs.FlatLaws.{no-block, no-column, by-parts}
 use borrow.Author.Needs.{needs}
 use Rattle.cutting.proofs.cut_ok.Statement.{statement}
 use Rattle.cutting.proofs.cut_ok.Tie as tie
-use Rattle.cutting.proofs.cut_ok.Reads as reads
-use Rattle.cutting.proofs.cut_ok.Lts as lts
-use Rattle.cutting.proofs.may_part.Reads as may-part-reads
 
 cast-a : tie.Need-cast-a
 cast-a c = search needs

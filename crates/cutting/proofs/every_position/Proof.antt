@@ -6,8 +6,6 @@ use Rattle.blocks.proofs.MaskLaws.{shift-one}
 use borrow.Author.Needs.{needs}
 use Rattle.cutting.proofs.every_position.Statement.{statement}
 use Rattle.cutting.proofs.every_position.Tie as tie
-use Rattle.cutting.proofs.every_position.Reads as reads
-use Rattle.cutting.proofs.every_position.Lts as lts
 
 shl-result : tie.Need-shl-result
 shl-result c = search needs

@@ -11,9 +11,6 @@ use Rattle.blocks.proofs.FlatLaws.{firstSet, first-whole}
 use borrow.Author.Needs.{needs}
 use Rattle.cutting.proofs.fill_first.Statement.{statement}
 use Rattle.cutting.proofs.fill_first.Tie as tie
-use Rattle.cutting.proofs.fill_first.Reads as reads
-use Rattle.cutting.proofs.fill_first.Lts as lts
-use Rattle.cutting.proofs.every_position.Reads as every-position-reads
 
 abbrev Inv-loop : tie.InvT-loop
 Inv-loop sets₀ model columns j₀ sets j =

@@ -6,8 +6,6 @@ use Rattle.blocks.specs.Flat.{goesOn}
 use borrow.Author.Needs.{needs}
 use Rattle.cutting.proofs.goes_on.Statement.{statement}
 use Rattle.cutting.proofs.goes_on.Tie as tie
-use Rattle.cutting.proofs.goes_on.Reads as reads
-use Rattle.cutting.proofs.goes_on.Lts as lts
 
 returns : tie.Need-returns
 unfolding goesOn

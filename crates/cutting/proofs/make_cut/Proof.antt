@@ -4,9 +4,6 @@ use Rattle.blocks.specs.Flat.{past, cutIn}
 use borrow.Author.Needs.{needs}
 use Rattle.cutting.proofs.make_cut.Statement.{statement}
 use Rattle.cutting.proofs.make_cut.Tie as tie
-use Rattle.cutting.proofs.make_cut.Reads as reads
-use Rattle.cutting.proofs.make_cut.Lts as lts
-use Rattle.cutting.proofs.copy_row.Reads as copy-row-reads
 
 cast-here : tie.Need-cast-here
 cast-here c = search needs

@@ -4,8 +4,6 @@ use Rattle.blocks.specs.Blocks.{isEmpty, without}
 use Rattle.blocks.specs.Masks.{parts}
 use Rattle.cutting.proofs.may_part.Statement.{statement}
 use Rattle.cutting.proofs.may_part.Tie as tie
-use Rattle.cutting.proofs.may_part.Reads as reads
-use Rattle.cutting.proofs.may_part.Lts as lts
 
 returns : tie.Need-returns
 unfolding parts isEmpty without

@@ -3,34 +3,25 @@ use Rattle.figures.proofs.FigureLaws.{detour-dash, detour-fits, detour-
 use borrow.Author.Needs.{needs}
 use Rattle.figures.proofs.detour.Statement.{statement}
 use Rattle.figures.proofs.detour.Tie as tie
-use Rattle.figures.proofs.detour.Reads as reads
-use Rattle.figures.proofs.detour.Lts as lts
-use Rattle.figures.proofs.won.Reads as won-reads
 
--- src/lib.rt:54:16
 cast-result : tie.Need-cast-result
 cast-result c = search needs
 
--- src/lib.rt:54:9
 returns : tie.Need-returns
 unfolding dash
 returns c = let g = c .before .args in detour-dash (g .before) (g .after) (g .paid) (c .if1 .taken)
 
--- src/lib.rt:56:5
 cast-result-2 : tie.Need-cast-result-2
 cast-result-2 c = search needs
 
--- src/lib.rt:56:19
 won-requires : tie.Need-won-requires
 won-requires c κs = search needs
 
--- src/lib.rt:56:5
 sub-result : tie.Need-sub-result
 sub-result c = let g = c .before .before .args in
     let p = c .before .before .pre in
     detour-fits (g .before) (g .after) (p .1) (p .2) (c .before .if1 .left) (g .paid) (p .0) (c .won .ensures)
 
--- src/lib.rt:49:1
 returns-2 : tie.Need-returns-2
 returns-2 c = let g = c .before .before .args in
     let p = c .before .before .pre in

@@ -10,10 +10,6 @@ use Rattle.figures.proofs.FigureLaws.{again}
 use borrow.Author.Needs.{needs}
 use Rattle.figures.proofs.put_rows.Statement.{statement}
 use Rattle.figures.proofs.put_rows.Tie as tie
-use Rattle.figures.proofs.put_rows.Reads as reads
-use Rattle.figures.proofs.put_rows.Lts as lts
-use Rattle.figures.proofs.put_row.Reads as put-row-reads
-use Rattle.task.proofs.tenths.Reads as tenths-reads
 
 abbrev Inv-loop : tie.InvT-loop
 Inv-loop costs log estimates rows₀ i₀ rows i = (i ≤ length log) × (rows ≡ puts 0 (each i (rowBy costs log estimates)) rows₀)
@@ -21,55 +17,42 @@ Inv-loop costs log estimates rows₀ i₀ rows i = (i ≤ length log) × (rows �
 abbrev μ-loop : tie.MeasureT-loop
 μ-loop costs log estimates rows₀ i₀ rows i = length log - i
 
--- src/lib.rt:81:5
 loop-holds : tie.Need-loop-holds Inv-loop μ-loop
 loop-holds c = (omega arith, puts-none 0 _ _)
 
--- src/lib.rt:82:17
 mul-s : tie.Need-mul-s Inv-loop μ-loop
 mul-s c = search needs
 
--- src/lib.rt:82:17
 shared-slice-read-s : tie.Need-shared-slice-read-s Inv-loop μ-loop
 shared-slice-read-s c = search needs
 
--- src/lib.rt:82:17
 cast-s : tie.Need-cast-s Inv-loop μ-loop
 cast-s c = let h = c .before .before .before .before .before .pre .1 .0 (c .before .before .loop .i) (c .before .loop-test .taken) in search (h, needs)
 
--- src/lib.rt:83:27
 mul-tenths : tie.Need-mul-tenths Inv-loop μ-loop
 mul-tenths c = let h = c .before .before .before .before .before .pre .1 .0 (c .before .before .loop .i) (c .before .loop-test .taken) in search (h, needs)
 
--- src/lib.rt:83:27
 shared-slice-read-tenths : tie.Need-shared-slice-read-tenths Inv-loop μ-loop
 shared-slice-read-tenths c = c .before .before .before .before .before .before .pre .1 .0 (c .before .before .before .loop .i) (c .before .before .loop-test .taken)
 
--- src/lib.rt:83:13
 tenths-requires : tie.Need-tenths-requires Inv-loop μ-loop
 tenths-requires c κs = search needs
 
--- src/lib.rt:84:26
 mul-put-row : tie.Need-mul-put-row Inv-loop μ-loop
 mul-put-row c = search needs
 
--- src/lib.rt:84:26
 element-copy-out-put-row : tie.Need-element-copy-out-put-row Inv-loop μ-loop
 element-copy-out-put-row c = search needs
 
--- src/lib.rt:84:50
 add-put-row : tie.Need-add-put-row Inv-loop μ-loop
 add-put-row c = search needs
 
--- src/lib.rt:84:40
 mul-put-row-2 : tie.Need-mul-put-row-2 Inv-loop μ-loop
 mul-put-row-2 c = search needs
 
--- src/lib.rt:84:40
 element-copy-out-put-row-2 : tie.Need-element-copy-out-put-row-2 Inv-loop μ-loop
 element-copy-out-put-row-2 c = search needs
 
--- src/lib.rt:84:9
 put-row-requires : tie.Need-put-row-requires Inv-loop μ-loop
 put-row-requires c κs =
     let loop-test-at = c .before .before .before .before .before .before in
@@ -87,15 +70,12 @@ put-row-requires c κs =
       after-low = p .1 .1 (l .i + 1) (omega (arith, t));
     }
 
--- src/lib.rt:85:9
 add-i : tie.Need-add-i Inv-loop μ-loop
 add-i c = search needs
 
--- src/lib.rt:81:5
 loop-less : tie.Need-loop-less Inv-loop μ-loop
 loop-less c = search needs
 
--- src/lib.rt:81:5
 loop-again : tie.Need-loop-again Inv-loop μ-loop
 loop-again c =
     let tenths-at = c .before .before .before .before .before in
@@ -109,11 +89,9 @@ loop-again c =
           (c .before .put-row .ensures),
     )
 
--- src/lib.rt:74:1
 same-length : tie.Need-same-length Inv-loop μ-loop
 same-length c = ap length (c .before .loop .inv .1) ∙ puts-length 0 _ _
 
--- src/lib.rt:74:1
 returns : tie.Need-returns Inv-loop μ-loop
 returns c = let g = c .before .before .before .before .args in
     let l = c .before .loop in

@@ -3,31 +3,23 @@ use Rattle.figures.proofs.FigureLaws.{won-dash, won-fits, won-reads}
 use borrow.Author.Needs.{needs}
 use Rattle.figures.proofs.won.Statement.{statement}
 use Rattle.figures.proofs.won.Tie as tie
-use Rattle.figures.proofs.won.Reads as reads
-use Rattle.figures.proofs.won.Lts as lts
 
--- src/lib.rt:43:16
 cast-result : tie.Need-cast-result
 cast-result c = search needs
 
--- src/lib.rt:43:9
 returns : tie.Need-returns
 unfolding dash
 returns c = let g = c .before .args in won-dash (g .before) (g .after) (c .if1 .taken)
 
--- src/lib.rt:45:5
 cast-result-2 : tie.Need-cast-result-2
 cast-result-2 c = search needs
 
--- src/lib.rt:45:21
 cast-result-3 : tie.Need-cast-result-3
 cast-result-3 c = search needs
 
--- src/lib.rt:45:5
 sub-result : tie.Need-sub-result
 sub-result c = let g = c .before .args in won-fits (g .before) (g .after) (c .before .pre .0) (c .before .pre .1)
 
--- src/lib.rt:38:1
 returns-2 : tie.Need-returns-2
 returns-2 c = let g = c .before .args in won-reads (g .before) (g .after) (c .before .pre .0) (c .before .pre .1) (c .if1 .left)
 

@@ -4,8 +4,6 @@ use Rattle.historian.specs.Entries.{answerNumber}
 use borrow.Author.Needs.{needs}
 use Rattle.historian.proofs.answer_number.Statement.{statement}
 use Rattle.historian.proofs.answer_number.Tie as tie
-use Rattle.historian.proofs.answer_number.Reads as reads
-use Rattle.historian.proofs.answer_number.Lts as lts
 
 enum-known-answer : tie.Need-enum-known-answer
 enum-known-answer c = search needs

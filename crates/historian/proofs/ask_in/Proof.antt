@@ -6,11 +6,6 @@ use Rattle.historian.proofs.AskEntryLaws.{asked-go, asked-in, refused-i
 use borrow.Author.Needs.{needs}
 use Rattle.historian.proofs.ask_in.Statement.{statement}
 use Rattle.historian.proofs.ask_in.Tie as tie
-use Rattle.historian.proofs.ask_in.Reads as reads
-use Rattle.historian.proofs.ask_in.Lts as lts
-use Rattle.asking.proofs.question.Reads as question-reads
-use Rattle.values.proofs.put_values.Reads as put-values-reads
-use Rattle.values.proofs.usable_places.Reads as usable-places-reads
 
 usable-places-requires : tie.Need-usable-places-requires
 usable-places-requires c κs = search needs

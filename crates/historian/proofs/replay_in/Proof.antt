@@ -7,14 +7,6 @@ use Rattle.historian.proofs.ReplayEntryLaws.{got-fits, rows-few, row-fe
 use borrow.Author.Needs.{needs}
 use Rattle.historian.proofs.replay_in.Statement.{statement}
 use Rattle.historian.proofs.replay_in.Tie as tie
-use Rattle.historian.proofs.replay_in.Reads as reads
-use Rattle.historian.proofs.replay_in.Lts as lts
-use Rattle.values.proofs.usable_places.Reads as usable-places-reads
-use Rattle.replaying.proofs.replay.Reads as replay-reads
-use Rattle.historian.proofs.replay_number.Reads as replay-number-reads
-use Rattle.historian.proofs.replayed_values.Reads as replayed-values-reads
-use Rattle.values.proofs.get_values.Reads as get-values-reads
-use Rattle.values.proofs.put_signed.Reads as put-signed-reads
 
 add-usable-places : tie.Need-add-usable-places
 add-usable-places c = search needs

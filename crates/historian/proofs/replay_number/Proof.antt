@@ -4,8 +4,6 @@ use Rattle.historian.specs.ReplayEntry.{replayNumber}
 use borrow.Author.Needs.{needs}
 use Rattle.historian.proofs.replay_number.Statement.{statement}
 use Rattle.historian.proofs.replay_number.Tie as tie
-use Rattle.historian.proofs.replay_number.Reads as reads
-use Rattle.historian.proofs.replay_number.Lts as lts
 
 enum-known-answer : tie.Need-enum-known-answer
 enum-known-answer c = search needs

@@ -3,8 +3,6 @@ use Rattle.replay.specs.Replay.{rowCount}
 use borrow.Author.Needs.{needs}
 use Rattle.historian.proofs.replayed_values.Statement.{statement}
 use Rattle.historian.proofs.replayed_values.Tie as tie
-use Rattle.historian.proofs.replayed_values.Reads as reads
-use Rattle.historian.proofs.replayed_values.Lts as lts
 
 enum-known-answer : tie.Need-enum-known-answer
 enum-known-answer c = search needs

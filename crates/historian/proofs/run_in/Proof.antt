@@ -7,14 +7,6 @@ use Rattle.historian.proofs.RunEntryLaws.{counted, cuts-go, rows-go, to
 use borrow.Author.Needs.{needs}
 use Rattle.historian.proofs.run_in.Statement.{statement}
 use Rattle.historian.proofs.run_in.Tie as tie
-use Rattle.historian.proofs.run_in.Reads as reads
-use Rattle.historian.proofs.run_in.Lts as lts
-use Rattle.running.proofs.cut_values.Reads as cut-values-reads
-use Rattle.running.proofs.row_values.Reads as row-values-reads
-use Rattle.historian.proofs.answer_number.Reads as answer-number-reads
-use Rattle.values.proofs.put_values.Reads as put-values-reads
-use Rattle.values.proofs.usable_places.Reads as usable-places-reads
-use Rattle.running.proofs.run.Reads as run-reads
 
 sub-usable-places : tie.Need-sub-usable-places
 sub-usable-places c = search needs

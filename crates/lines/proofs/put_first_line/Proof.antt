@@ -4,10 +4,6 @@ use Rattle.lines.proofs.LineLaws.{join, same-long, labelled-most}
 use borrow.Author.Needs.{needs}
 use Rattle.lines.proofs.put_first_line.Statement.{statement}
 use Rattle.lines.proofs.put_first_line.Tie as tie
-use Rattle.lines.proofs.put_first_line.Reads as reads
-use Rattle.lines.proofs.put_first_line.Lts as lts
-use Rattle.lines.proofs.put_labelled.Reads as put-labelled-reads
-use Rattle.lines.proofs.put_text.Reads as put-text-reads
 
 enum-known-answer : tie.Need-enum-known-answer
 enum-known-answer c = search needs

@@ -2,10 +2,6 @@ use Rattle.lines.proofs.LineLaws.{joined}
 use borrow.Author.Needs.{needs}
 use Rattle.lines.proofs.put_labelled.Statement.{statement}
 use Rattle.lines.proofs.put_labelled.Tie as tie
-use Rattle.lines.proofs.put_labelled.Reads as reads
-use Rattle.lines.proofs.put_labelled.Lts as lts
-use Rattle.lines.proofs.put_number.Reads as put-number-reads
-use Rattle.lines.proofs.put_text.Reads as put-text-reads
 
 put-text-requires : tie.Need-put-text-requires
 put-text-requires c κs = search needs

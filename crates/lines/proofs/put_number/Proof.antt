@@ -3,10 +3,6 @@ use Rattle.lines.proofs.LineLaws.{number-short, number-put}
 use borrow.Author.Needs.{needs}
 use Rattle.lines.proofs.put_number.Statement.{statement}
 use Rattle.lines.proofs.put_number.Tie as tie
-use Rattle.lines.proofs.put_number.Reads as reads
-use Rattle.lines.proofs.put_number.Lts as lts
-use Rattle.io.proofs.decimal.Reads as decimal-reads
-use Rattle.lines.proofs.put_text.Reads as put-text-reads
 
 decimal-requires : tie.Need-decimal-requires
 decimal-requires c κs = search needs

@@ -4,11 +4,6 @@ use Rattle.lines.proofs.PrintedLaws.{printed-short, printed-run}
 use borrow.Author.Needs.{needs}
 use Rattle.lines.proofs.put_printed.Statement.{statement}
 use Rattle.lines.proofs.put_printed.Tie as tie
-use Rattle.lines.proofs.put_printed.Reads as reads
-use Rattle.lines.proofs.put_printed.Lts as lts
-use Rattle.fields.proofs.field.field.Reads as field-reads
-use Rattle.lines.proofs.put_first_line.Reads as put-first-line-reads
-use Rattle.lines.proofs.put_run.Reads as put-run-reads
 
 put-first-line-requires : tie.Need-put-first-line-requires
 unfolding Counted

@@ -4,12 +4,6 @@ use Rattle.lines.proofs.LineLaws.{same-long, labelled-most, decimal-mos
 use borrow.Author.Needs.{needs}
 use Rattle.lines.proofs.put_row.Statement.{statement}
 use Rattle.lines.proofs.put_row.Tie as tie
-use Rattle.lines.proofs.put_row.Reads as reads
-use Rattle.lines.proofs.put_row.Lts as lts
-use Rattle.lines.proofs.put_labelled.Reads as put-labelled-reads
-use Rattle.lines.proofs.put_number.Reads as put-number-reads
-use Rattle.lines.proofs.put_text.Reads as put-text-reads
-use Rattle.lines.proofs.wide.Reads as wide-reads
 
 mul-place : tie.Need-mul-place
 mul-place c = search needs

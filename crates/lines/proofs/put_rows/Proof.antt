@@ -4,9 +4,6 @@ use Rattle.lines.proofs.LineLaws.{RowsPut, rows-none, rows-more, rows-e
 use borrow.Author.Needs.{needs}
 use Rattle.lines.proofs.put_rows.Statement.{statement}
 use Rattle.lines.proofs.put_rows.Tie as tie
-use Rattle.lines.proofs.put_rows.Reads as reads
-use Rattle.lines.proofs.put_rows.Lts as lts
-use Rattle.lines.proofs.put_row.Reads as put-row-reads
 
 abbrev Inv-loop : tie.InvT-loop
 Inv-loop list count out₀ at next₀ i₀ out next i = RowsPut list out₀ at count out next i

@@ -3,12 +3,6 @@ use Rattle.lines.proofs.PrintedLaws.{counted, rows-go, lines-put}
 use borrow.Author.Needs.{needs}
 use Rattle.lines.proofs.put_run.Statement.{statement}
 use Rattle.lines.proofs.put_run.Tie as tie
-use Rattle.lines.proofs.put_run.Reads as reads
-use Rattle.lines.proofs.put_run.Lts as lts
-use Rattle.running.proofs.Answer.row_count.Reads as row-count-reads
-use Rattle.lines.proofs.put_first_line.Reads as put-first-line-reads
-use Rattle.lines.proofs.put_rows.Reads as put-rows-reads
-use Rattle.running.proofs.run.Reads as run-reads
 
 run-requires : tie.Need-run-requires
 run-requires c κs = search needs

@@ -10,9 +10,6 @@ use Rattle.blocks.specs.Masks.{allLie}
 use borrow.Author.Needs.{needs}
 use Rattle.masks.proofs.all_lie.Statement.{statement}
 use Rattle.masks.proofs.all_lie.Tie as tie
-use Rattle.masks.proofs.all_lie.Reads as reads
-use Rattle.masks.proofs.all_lie.Lts as lts
-use Rattle.masks.proofs.lies.Reads as lies-reads
 
 abbrev Inv-loop : tie.InvT-loop
 Inv-loop n i k wants sets j₀ j = (j ≤ n) × (allLie j i k wants sets ≡ true)

@@ -3,8 +3,6 @@ use Rattle.blocks.proofs.MaskLaws.{shift-one}
 use borrow.Author.Needs.{needs}
 use Rattle.masks.proofs.alone.Statement.{statement}
 use Rattle.masks.proofs.alone.Tie as tie
-use Rattle.masks.proofs.alone.Reads as reads
-use Rattle.masks.proofs.alone.Lts as lts
 
 cast-result : tie.Need-cast-result
 cast-result c = search needs

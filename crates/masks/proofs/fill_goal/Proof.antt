@@ -9,9 +9,6 @@ use mathlib.Core.Path.{_≡_, sym}
 use borrow.Author.Needs.{needs}
 use Rattle.masks.proofs.fill_goal.Statement.{statement}
 use Rattle.masks.proofs.fill_goal.Tie as tie
-use Rattle.masks.proofs.fill_goal.Reads as reads
-use Rattle.masks.proofs.fill_goal.Lts as lts
-use Rattle.masks.proofs.mark_set.Reads as mark-set-reads
 
 abbrev Inv-loop : tie.InvT-loop
 Inv-loop tables₀ model row j₀ tables j = (j ≤ limits .columns) × (length tables ≡ tablePlaces) × (tables ≡ laid j (goalSet model) (rowOf goalRow) tables₀)
@@ -19,50 +16,39 @@ Inv-loop tables₀ model row j₀ tables j = (j ≤ limits .columns) × (length 
 abbrev μ-loop : tie.MeasureT-loop
 μ-loop tables₀ model row j₀ tables j = limits .columns - j
 
--- src/lib.rt:83:15
 mul-row : tie.Need-mul-row Inv-loop μ-loop
 mul-row c = search needs
 
--- src/lib.rt:85:5
 loop-holds : tie.Need-loop-holds Inv-loop μ-loop
 loop-holds c = (omega arith, search needs, sym (laid-none _ _ _))
 
--- src/lib.rt:86:36
 element-copy-out-mark-set : tie.Need-element-copy-out-mark-set Inv-loop μ-loop
 element-copy-out-mark-set c = search needs
 
--- src/lib.rt:86:27
 mark-set-requires : tie.Need-mark-set-requires Inv-loop μ-loop
 mark-set-requires c κs = search needs
 
--- src/lib.rt:86:16
 add-tables : tie.Need-add-tables Inv-loop μ-loop
 add-tables c = search needs
 
--- src/lib.rt:86:9
 mul-tables : tie.Need-mul-tables Inv-loop μ-loop
 mul-tables c = search needs
 
--- src/lib.rt:86:9
 element-write-tables : tie.Need-element-write-tables Inv-loop μ-loop
 element-write-tables c = search needs
 
--- src/lib.rt:87:9
 add-j : tie.Need-add-j Inv-loop μ-loop
 add-j c = search needs
 
--- src/lib.rt:85:5
 loop-less : tie.Need-loop-less Inv-loop μ-loop
 loop-less c = search needs
 
--- src/lib.rt:85:5
 loop-again : tie.Need-loop-again Inv-loop μ-loop
 unfolding goalSet
 loop-again c =
     let l = c .before .before .before .loop in
     (omega arith, simp length-set (l .inv .1), laid-set _ _ _ (l .j) _ _ (l .inv .2) (omega arith) (c .mark-set .ensures))
 
--- src/lib.rt:79:1
 returns : tie.Need-returns Inv-loop μ-loop
 returns c =
     let l = c .before .loop in

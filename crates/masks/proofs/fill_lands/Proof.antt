@@ -10,9 +10,6 @@ use mathlib.Core.Path.{_≡_, sym}
 use borrow.Author.Needs.{needs}
 use Rattle.masks.proofs.fill_lands.Statement.{statement}
 use Rattle.masks.proofs.fill_lands.Tie as tie
-use Rattle.masks.proofs.fill_lands.Reads as reads
-use Rattle.masks.proofs.fill_lands.Lts as lts
-use Rattle.masks.proofs.land_set.Reads as land-set-reads
 
 abbrev Inv-loop : tie.InvT-loop
 Inv-loop tables₀ model row i₀ tables i = (i ≤ stepPlaces) × (length tables ≡ tablePlaces) × (tables ≡ laid i (landsSet model) (rowOf landsRow) tables₀)
@@ -20,58 +17,45 @@ Inv-loop tables₀ model row i₀ tables i = (i ≤ stepPlaces) × (length table
 abbrev μ-loop : tie.MeasureT-loop
 μ-loop tables₀ model row i₀ tables i = stepPlaces - i
 
--- src/lib.rt:70:15
 mul-row : tie.Need-mul-row Inv-loop μ-loop
 mul-row c = search needs
 
--- src/lib.rt:72:5
 loop-holds : tie.Need-loop-holds Inv-loop μ-loop
 loop-holds c = (omega arith, search needs, sym (laid-none _ _ _))
 
--- src/lib.rt:72:15
 mul-loop : tie.Need-mul-loop Inv-loop μ-loop
 mul-loop c = search needs
 
--- src/lib.rt:73:36
 element-copy-out-land-set : tie.Need-element-copy-out-land-set Inv-loop μ-loop
 element-copy-out-land-set c = search needs
 
--- src/lib.rt:73:51
 element-copy-out-land-set-2 : tie.Need-element-copy-out-land-set-2 Inv-loop μ-loop
 element-copy-out-land-set-2 c = search needs
 
--- src/lib.rt:73:27
 land-set-requires : tie.Need-land-set-requires Inv-loop μ-loop
 land-set-requires c κs = search needs
 
--- src/lib.rt:73:16
 add-tables : tie.Need-add-tables Inv-loop μ-loop
 add-tables c = search needs
 
--- src/lib.rt:73:9
 mul-tables : tie.Need-mul-tables Inv-loop μ-loop
 mul-tables c = search needs
 
--- src/lib.rt:73:9
 element-write-tables : tie.Need-element-write-tables Inv-loop μ-loop
 element-write-tables c = search needs
 
--- src/lib.rt:74:9
 add-i : tie.Need-add-i Inv-loop μ-loop
 add-i c = search needs
 
--- src/lib.rt:72:5
 loop-less : tie.Need-loop-less Inv-loop μ-loop
 loop-less c = search needs
 
--- src/lib.rt:72:5
 loop-again : tie.Need-loop-again Inv-loop μ-loop
 unfolding landsSet
 loop-again c =
     let l = c .before .before .before .before .loop in
     (omega arith, simp length-set (l .inv .1), laid-set _ _ _ (l .i) _ _ (l .inv .2) (omega arith) (c .land-set .ensures))
 
--- src/lib.rt:66:1
 returns : tie.Need-returns Inv-loop μ-loop
 returns c =
     let l = c .before .loop in

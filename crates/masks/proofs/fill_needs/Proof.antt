@@ -10,9 +10,6 @@ use mathlib.Core.Path.{_≡_, sym}
 use borrow.Author.Needs.{needs}
 use Rattle.masks.proofs.fill_needs.Statement.{statement}
 use Rattle.masks.proofs.fill_needs.Tie as tie
-use Rattle.masks.proofs.fill_needs.Reads as reads
-use Rattle.masks.proofs.fill_needs.Lts as lts
-use Rattle.masks.proofs.mark_set.Reads as mark-set-reads
 
 abbrev Inv-loop : tie.InvT-loop
 Inv-loop tables₀ model i₀ tables i = (i ≤ stepPlaces) × (length tables ≡ tablePlaces) × (tables ≡ laid i (needSet model) 0 tables₀)
@@ -20,46 +17,36 @@ Inv-loop tables₀ model i₀ tables i = (i ≤ stepPlaces) × (length tables �
 abbrev μ-loop : tie.MeasureT-loop
 μ-loop tables₀ model i₀ tables i = stepPlaces - i
 
--- src/lib.rt:59:5
 loop-holds : tie.Need-loop-holds Inv-loop μ-loop
 loop-holds c = (omega arith, search needs, sym (laid-none _ _ _))
 
--- src/lib.rt:59:15
 mul-loop : tie.Need-mul-loop Inv-loop μ-loop
 mul-loop c = search needs
 
--- src/lib.rt:60:30
 element-copy-out-mark-set : tie.Need-element-copy-out-mark-set Inv-loop μ-loop
 element-copy-out-mark-set c = search needs
 
--- src/lib.rt:60:21
 mark-set-requires : tie.Need-mark-set-requires Inv-loop μ-loop
 mark-set-requires c κs = search needs
 
--- src/lib.rt:60:9
 mul-tables : tie.Need-mul-tables Inv-loop μ-loop
 mul-tables c = search needs
 
--- src/lib.rt:60:9
 element-write-tables : tie.Need-element-write-tables Inv-loop μ-loop
 element-write-tables c = search needs
 
--- src/lib.rt:61:9
 add-i : tie.Need-add-i Inv-loop μ-loop
 add-i c = search needs
 
--- src/lib.rt:59:5
 loop-less : tie.Need-loop-less Inv-loop μ-loop
 loop-less c = search needs
 
--- src/lib.rt:59:5
 loop-again : tie.Need-loop-again Inv-loop μ-loop
 unfolding needSet
 loop-again c =
     let l = c .before .before .before .loop in
     (omega arith, simp length-set (l .inv .1), laid-set _ _ _ (l .i) _ _ (l .inv .2) (omega arith) (c .mark-set .ensures))
 
--- src/lib.rt:54:1
 returns : tie.Need-returns Inv-loop μ-loop
 returns c =
     let l = c .before .loop in

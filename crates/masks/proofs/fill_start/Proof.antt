@@ -11,9 +11,6 @@ use mathlib.Core.Path.{_≡_, sym}
 use borrow.Author.Needs.{needs}
 use Rattle.masks.proofs.fill_start.Statement.{statement}
 use Rattle.masks.proofs.fill_start.Tie as tie
-use Rattle.masks.proofs.fill_start.Reads as reads
-use Rattle.masks.proofs.fill_start.Lts as lts
-use Rattle.masks.proofs.alone.Reads as alone-reads
 
 abbrev Inv-loop : tie.InvT-loop
 Inv-loop tables₀ model columns row j₀ tables j = (j ≤ columns) × (columns ≤ limits .columns) × (length tables ≡ tablePlaces) × (tables ≡ laid j (startSet model) (rowOf startRow) tables₀)
@@ -21,50 +18,39 @@ Inv-loop tables₀ model columns row j₀ tables j = (j ≤ columns) × (columns
 abbrev μ-loop : tie.MeasureT-loop
 μ-loop tables₀ model columns row j₀ tables j = columns - j
 
--- src/lib.rt:97:15
 mul-row : tie.Need-mul-row Inv-loop μ-loop
 mul-row c = search needs
 
--- src/lib.rt:99:5
 loop-holds : tie.Need-loop-holds Inv-loop μ-loop
 loop-holds c = (omega arith, rw columns-of at (c .pre .0 .columns .1), search needs, sym (laid-none _ _ _))
 
--- src/lib.rt:100:33
 element-copy-out-alone : tie.Need-element-copy-out-alone Inv-loop μ-loop
 element-copy-out-alone c = search needs
 
--- src/lib.rt:100:27
 alone-requires : tie.Need-alone-requires Inv-loop μ-loop
 alone-requires c κs = start-small (c .before .before .before .args .t1) (c .before .before .before .pre .0) (c .before .before .loop .j) (c .before .loop-test .taken)
 
--- src/lib.rt:100:16
 add-tables : tie.Need-add-tables Inv-loop μ-loop
 add-tables c = search needs
 
--- src/lib.rt:100:9
 mul-tables : tie.Need-mul-tables Inv-loop μ-loop
 mul-tables c = search needs
 
--- src/lib.rt:100:9
 element-write-tables : tie.Need-element-write-tables Inv-loop μ-loop
 element-write-tables c = search needs
 
--- src/lib.rt:101:9
 add-j : tie.Need-add-j Inv-loop μ-loop
 add-j c = search needs
 
--- src/lib.rt:99:5
 loop-less : tie.Need-loop-less Inv-loop μ-loop
 loop-less c = search needs
 
--- src/lib.rt:99:5
 loop-again : tie.Need-loop-again Inv-loop μ-loop
 unfolding startSet
 loop-again c =
     let l = c .before .before .before .loop in
     (omega arith, l .inv .1, simp length-set (l .inv .2), laid-set _ _ _ (l .j) _ _ (l .inv .3) (omega arith) (c .alone .ensures))
 
--- src/lib.rt:92:1
 returns : tie.Need-returns Inv-loop μ-loop
 returns c =
     let l = c .before .loop in

@@ -7,31 +7,20 @@ use mathlib.Core.Path.{_≡_, ap, _∙_}
 use borrow.Author.Needs.{needs}
 use Rattle.masks.proofs.fill_tables.Statement.{statement}
 use Rattle.masks.proofs.fill_tables.Tie as tie
-use Rattle.masks.proofs.fill_tables.Reads as reads
-use Rattle.masks.proofs.fill_tables.Lts as lts
-use Rattle.masks.proofs.fill_goal.Reads as fill-goal-reads
-use Rattle.masks.proofs.fill_lands.Reads as fill-lands-reads
-use Rattle.masks.proofs.fill_needs.Reads as fill-needs-reads
-use Rattle.masks.proofs.fill_start.Reads as fill-start-reads
 
--- src/lib.rt:110:5
 fill-needs-requires : tie.Need-fill-needs-requires
 fill-needs-requires c κs = search needs
 
--- src/lib.rt:111:5
 fill-lands-requires : tie.Need-fill-lands-requires
 fill-lands-requires c κs = ap length (c .before .fill-needs .ensures) ∙ laid-length _ _ _ stepPlaces ∙ c .before .before .before .pre .1
 
--- src/lib.rt:112:5
 fill-goal-requires : tie.Need-fill-goal-requires
 fill-goal-requires c κs = ap length (c .before .fill-lands .ensures) ∙ laid-length _ _ _ stepPlaces ∙ ap length (c .before .before .before .fill-needs .ensures) ∙ laid-length _ _ _ stepPlaces ∙ c .before .before .before .before .before .pre .1
 
--- src/lib.rt:113:5
 fill-start-requires : tie.Need-fill-start-requires
 fill-start-requires c κs =
     (c .before .before .before .before .before .before .before .pre .0, ap length (c .before .fill-goal .ensures) ∙ laid-length _ _ _ (limits .columns) ∙ ap length (c .before .before .before .fill-lands .ensures) ∙ laid-length _ _ _ stepPlaces ∙ ap length (c .before .before .before .before .before .fill-needs .ensures) ∙ laid-length _ _ _ stepPlaces ∙ c .before .before .before .before .before .before .before .pre .1)
 
--- src/lib.rt:106:1
 returns : tie.Need-returns
 unfolding tablesOf
 returns c = rw (← c .before .before .before .before .before .before .fill-needs .ensures, ← c .before .before .before .before .fill-lands .ensures, ← c .before .before .fill-goal .ensures) (c .fill-start .ensures)

@@ -3,9 +3,6 @@ use Rattle.blocks.specs.Masks.{landSet}
 use borrow.Author.Needs.{needs}
 use Rattle.masks.proofs.land_set.Statement.{statement}
 use Rattle.masks.proofs.land_set.Tie as tie
-use Rattle.masks.proofs.land_set.Reads as reads
-use Rattle.masks.proofs.land_set.Lts as lts
-use Rattle.masks.proofs.mark_set.Reads as mark-set-reads
 
 mark-set-requires : tie.Need-mark-set-requires
 mark-set-requires c κs = search needs

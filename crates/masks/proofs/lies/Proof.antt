@@ -3,8 +3,6 @@ use Rattle.blocks.specs.Masks.{lies}
 use borrow.Author.Needs.{needs}
 use Rattle.masks.proofs.lies.Statement.{statement}
 use Rattle.masks.proofs.lies.Tie as tie
-use Rattle.masks.proofs.lies.Reads as reads
-use Rattle.masks.proofs.lies.Lts as lts
 
 returns : tie.Need-returns
 unfolding lies common

@@ -5,8 +5,6 @@ use Rattle.blocks.proofs.MaskLaws.{mark-none, mark-high, mark-low, shift-one}
 use borrow.Author.Needs.{needs}
 use Rattle.masks.proofs.mark_set.Statement.{statement}
 use Rattle.masks.proofs.mark_set.Tie as tie
-use Rattle.masks.proofs.mark_set.Reads as reads
-use Rattle.masks.proofs.mark_set.Lts as lts
 
 returns : tie.Need-returns
 returns c = sym (mark-none _ (search needs))

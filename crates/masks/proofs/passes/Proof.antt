@@ -5,8 +5,6 @@ use Rattle.blocks.specs.Blocks.{common, isEmpty}
 use Rattle.blocks.specs.Masks.{lies, passes}
 use Rattle.masks.proofs.passes.Statement.{statement}
 use Rattle.masks.proofs.passes.Tie as tie
-use Rattle.masks.proofs.passes.Reads as reads
-use Rattle.masks.proofs.passes.Lts as lts
 
 returns : tie.Need-returns
 unfolding passes lies common isEmpty

@@ -13,10 +13,6 @@ use Rattle.preparing.proofs.WholeLaws.{wholeOn, whole-on, columns-small
 use borrow.Author.Needs.{needs}
 use Rattle.preparing.proofs.fill_whole.Statement.{statement}
 use Rattle.preparing.proofs.fill_whole.Tie as tie
-use Rattle.preparing.proofs.fill_whole.Reads as reads
-use Rattle.preparing.proofs.fill_whole.Lts as lts
-use Rattle.cutting.proofs.every_position.Reads as every-position-reads
-use Rattle.fields.proofs.field.field.Reads as field-reads
 
 abbrev Inv-loop : tie.InvT-loop
 Inv-loop model columns sets₀ j₀ sets j = (j ≤ columns) × (columns ≤ limits .columns) × (length sets ≡ blockPlaces) × (sets ≡ over (tab j (wholeOn model)) sets₀)

@@ -2,10 +2,6 @@ use Rattle.preparing.proofs.PreparingLaws.{own-accepted, prepared}
 use borrow.Author.Needs.{needs}
 use Rattle.preparing.proofs.prepare.Statement.{statement}
 use Rattle.preparing.proofs.prepare.Tie as tie
-use Rattle.preparing.proofs.prepare.Reads as reads
-use Rattle.preparing.proofs.prepare.Lts as lts
-use Rattle.masks.proofs.fill_tables.Reads as fill-tables-reads
-use Rattle.unpack.proofs.unpack_accepted.Reads as unpack-accepted-reads
 
 unpack-accepted-requires : tie.Need-unpack-accepted-requires
 unpack-accepted-requires c κs = search needs

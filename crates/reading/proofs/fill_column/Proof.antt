@@ -9,9 +9,6 @@ use Rattle.fields.proofs.FieldLaws.{field-lt, read-at}
 use borrow.Author.Needs.{needs}
 use Rattle.reading.proofs.fill_column.Statement.{statement}
 use Rattle.reading.proofs.fill_column.Tie as tie
-use Rattle.reading.proofs.fill_column.Reads as reads
-use Rattle.reading.proofs.fill_column.Lts as lts
-use Rattle.fields.proofs.field.field.Reads as field-reads
 
 column-bits-requires : tie.Need-column-bits-requires
 column-bits-requires c κs = search needs

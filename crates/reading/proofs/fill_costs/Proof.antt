@@ -14,10 +14,6 @@ use Rattle.fields.specs.Bits.{fieldAt}
 use borrow.Author.Needs.{needs}
 use Rattle.reading.proofs.fill_costs.Statement.{statement}
 use Rattle.reading.proofs.fill_costs.Tie as tie
-use Rattle.reading.proofs.fill_costs.Reads as reads
-use Rattle.reading.proofs.fill_costs.Lts as lts
-use Rattle.fields.proofs.field.field.Reads as field-reads
-use Rattle.sheets.proofs.model_bits.Reads as model-bits-reads
 
 abbrev Inv-loop : tie.InvT-loop
 Inv-loop s n m costs₀ j₀ costs j =

@@ -11,9 +11,6 @@ use Rattle.fields.specs.Judging.{each}
 use borrow.Author.Needs.{needs}
 use Rattle.reading.proofs.fill_frame.Statement.{statement}
 use Rattle.reading.proofs.fill_frame.Tie as tie
-use Rattle.reading.proofs.fill_frame.Reads as reads
-use Rattle.reading.proofs.fill_frame.Lts as lts
-use Rattle.reading.proofs.fill_column.Reads as fill-column-reads
 
 abbrev Inv-loop : tie.InvT-loop
 Inv-loop s n frame₀ i₀ frame i =

@@ -12,9 +12,6 @@ use Rattle.fields.specs.Judging.{each}
 use borrow.Author.Needs.{needs}
 use Rattle.reading.proofs.fill_marks.Statement.{statement}
 use Rattle.reading.proofs.fill_marks.Tie as tie
-use Rattle.reading.proofs.fill_marks.Reads as reads
-use Rattle.reading.proofs.fill_marks.Lts as lts
-use Rattle.reading.proofs.fill_step.Reads as fill-step-reads
 
 abbrev Inv-loop : tie.InvT-loop
 Inv-loop s n m marks₀ j₀ marks j =

@@ -12,10 +12,6 @@ use Prim.Native.Nat.{ℕ, _+_, _*_}
 use borrow.Author.Needs.{needs}
 use Rattle.reading.proofs.fill_pair.Statement.{statement}
 use Rattle.reading.proofs.fill_pair.Tie as tie
-use Rattle.reading.proofs.fill_pair.Reads as reads
-use Rattle.reading.proofs.fill_pair.Lts as lts
-use Rattle.fields.proofs.field.field.Reads as field-reads
-use Rattle.sheets.proofs.model_bits.Reads as model-bits-reads
 
 model-bits-requires : tie.Need-model-bits-requires
 model-bits-requires c κs = search needs

@@ -11,9 +11,6 @@ use Rattle.fields.specs.Judging.{each}
 use borrow.Author.Needs.{needs}
 use Rattle.reading.proofs.fill_step.Statement.{statement}
 use Rattle.reading.proofs.fill_step.Tie as tie
-use Rattle.reading.proofs.fill_step.Reads as reads
-use Rattle.reading.proofs.fill_step.Lts as lts
-use Rattle.reading.proofs.fill_pair.Reads as fill-pair-reads
 
 abbrev Inv-loop : tie.InvT-loop
 Inv-loop s n j marks₀ i₀ marks i =

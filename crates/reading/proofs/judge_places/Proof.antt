@@ -7,8 +7,6 @@ use Rattle.fields.proofs.JudgingLaws.{applies, passes, no-checks}
 use borrow.Author.Needs.{needs}
 use Rattle.reading.proofs.judge_places.Statement.{statement}
 use Rattle.reading.proofs.judge_places.Tie as tie
-use Rattle.reading.proofs.judge_places.Reads as reads
-use Rattle.reading.proofs.judge_places.Lts as lts
 
 mul-if1 : tie.Need-mul-if1
 mul-if1 c = search needs

@@ -5,14 +5,6 @@ use Rattle.reading.proofs.ReadingLaws.{sheet-refused, places-refused, e
 use borrow.Author.Needs.{needs}
 use Rattle.reading.proofs.read_model.Statement.{statement}
 use Rattle.reading.proofs.read_model.Tie as tie
-use Rattle.reading.proofs.read_model.Reads as reads
-use Rattle.reading.proofs.read_model.Lts as lts
-use Rattle.fields.proofs.field.field.Reads as field-reads
-use Rattle.reading.proofs.fill_costs.Reads as fill-costs-reads
-use Rattle.reading.proofs.fill_frame.Reads as fill-frame-reads
-use Rattle.reading.proofs.fill_marks.Reads as fill-marks-reads
-use Rattle.reading.proofs.judge_places.Reads as judge-places-reads
-use Rattle.sheets.proofs.judge_sheet.Reads as judge-sheet-reads
 
 judge-sheet-requires : tie.Need-judge-sheet-requires
 judge-sheet-requires c κs = search needs

@@ -5,13 +5,6 @@ use Prim.Native.Nat.{_-_}
 use borrow.Author.Needs.{needs}
 use Rattle.refining.proofs.cut_on.Statement.{statement}
 use Rattle.refining.proofs.cut_on.Tie as tie
-use Rattle.refining.proofs.cut_on.Reads as reads
-use Rattle.refining.proofs.cut_on.Lts as lts
-use Rattle.cutting.proofs.make_cut.Reads as make-cut-reads
-use Rattle.refining.proofs.end.Reads as end-reads
-use Rattle.refining.proofs.look.Reads as look-reads
-use Rattle.refining.proofs.put_cut.Reads as put-cut-reads
-use Rattle.refining.proofs.start_block.Reads as start-block-reads
 
 abbrev Inv-loop : tie.InvT-loop
 Inv-loop shape spare tables costs cuts₀ sets₀ dist₀ path₀ columns from₀ made₀ cuts sets dist path from made =
@@ -20,13 +13,11 @@ Inv-loop shape spare tables costs cuts₀ sets₀ dist₀ path₀ columns from�
 abbrev μ-loop : tie.MeasureT-loop
 μ-loop shape spare tables costs cuts₀ sets₀ dist₀ path₀ columns from₀ made₀ cuts sets dist path from made = spare - made
 
--- src/lib.rt:152:5
 loop-holds : tie.Need-loop-holds Inv-loop μ-loop
 loop-holds c =
     let p = c .before .pre in
     growing-none (p .0 .0) (p .0 .1) (p .1 .0 .0) (p .1 .0 .1) (p .1 .0 .2)
 
--- src/lib.rt:153:32
 add-look : tie.Need-add-look Inv-loop μ-loop
 add-look c =
     let p = c .before .before .pre in
@@ -35,7 +26,6 @@ add-look c =
     let h = p .0 .0 in
     search (needs, w, h)
 
--- src/lib.rt:153:13
 look-requires : tie.Need-look-requires Inv-loop μ-loop
 look-requires c κs =
     let p = c .before .before .before .before .before .pre in
@@ -44,41 +34,34 @@ look-requires c κs =
     let k = l .inv .grown (r .task) (r .tabled) (r .parted) in
     ((omega (arith, k .within, p .0 .0), l .inv .far, l .inv .way), record { task = r .task; cuts = _; tabled = r .tabled; parted = k .stand })
 
--- src/lib.rt:155:13
 end-requires : tie.Need-end-requires Inv-loop μ-loop
 end-requires c κs =
     let p = c .before .before .before .before .before .before .before .pre in
     let r = p .1 .1 in
     omega (arith, c .before .before .before .before .before .loop .inv .grown (r .task) (r .tabled) (r .parted) .within, p .0 .0)
 
--- src/lib.rt:155:13
 same-length : tie.Need-same-length Inv-loop μ-loop
 same-length c =
     let r = c .before .before .before .before .before .before .before .before .pre .1 .1 in
     c .before .before .before .before .before .before .loop .inv .grown (r .task) (r .tabled) (r .parted) .same
 
--- src/lib.rt:155:13
 returns : tie.Need-returns Inv-loop μ-loop
 returns c =
     let p = c .before .before .before .before .before .before .before .before .pre .0 in
     let e = c .before .before .look .ensures in
     (run-full (p .0) (p .1) (c .before .before .before .before .before .before .loop .inv) _ _ (e .0) (e .1 .0) (c .end .ensures) (c .before .if1 .taken), e .1 .2)
 
--- src/lib.rt:157:27
 enum-known-seen : tie.Need-enum-known-seen Inv-loop μ-loop
 enum-known-seen c = search needs
 
--- src/lib.rt:158:13
 end-requires-2 : tie.Need-end-requires-2 Inv-loop μ-loop
 end-requires-2 c κs = omega (arith, c .before .if1 .left, c .before .before .before .before .before .before .before .before .pre .0 .0)
 
--- src/lib.rt:158:13
 same-length-2 : tie.Need-same-length-2 Inv-loop μ-loop
 same-length-2 c =
     let r = c .before .before .before .before .before .before .before .before .before .pre .1 .1 in
     c .before .before .before .before .before .before .before .loop .inv .grown (r .task) (r .tabled) (r .parted) .same
 
--- src/lib.rt:158:13
 returns-2 : tie.Need-returns-2 Inv-loop μ-loop
 returns-2 c =
     let p = c .before .before .before .before .before .before .before .before .before .pre .0 in
@@ -88,7 +71,6 @@ returns-2 c =
       e .1 .2,
     )
 
--- src/lib.rt:160:9
 put-cut-requires : tie.Need-put-cut-requires Inv-loop μ-loop
 put-cut-requires c κs =
     let if1-at = c .before .before .before .before in
@@ -99,11 +81,9 @@ put-cut-requires c κs =
     let h = if1-at .if1 .left in
     (omega (arith, h, p .0 .0), omega (arith, loop-at .loop .inv .grown (r .task) (r .tabled) (r .parted) .same, p .0 .1, h))
 
--- src/lib.rt:161:27
 add-make-cut : tie.Need-add-make-cut Inv-loop μ-loop
 add-make-cut c = search needs
 
--- src/lib.rt:161:9
 make-cut-requires : tie.Need-make-cut-requires Inv-loop μ-loop
 make-cut-requires c κs =
     let seen-at = c .before .before .before .before .before .before in
@@ -116,11 +96,9 @@ make-cut-requires c κs =
     flaw-cuttable (p .0 .0) (p .0 .1) (loop-at .loop .inv) _ _ (look-at .look .ensures .0) (seen-at .seen .given .1) (if1-at .if1 .left)
     (r .task) (r .tabled) (r .parted)
 
--- src/lib.rt:162:39
 add-start-block : tie.Need-add-start-block Inv-loop μ-loop
 add-start-block c = search needs
 
--- src/lib.rt:162:9
 start-block-requires : tie.Need-start-block-requires Inv-loop μ-loop
 start-block-requires c κs =
     let seen-at = c .before .before .before .before .before .before .before in
@@ -134,7 +112,6 @@ start-block-requires c κs =
     (r .task) (r .tabled) (r .parted) in
     (omega (arith, f .there, f .wide), f .room)
 
--- src/lib.rt:163:9
 add-made : tie.Need-add-made Inv-loop μ-loop
 add-made c =
     let back = c .before .before .before .before .before .before .before .before in
@@ -144,11 +121,9 @@ add-made c =
     let h = if1-at .if1 .left in
     search (needs, p, h)
 
--- src/lib.rt:152:5
 loop-less : tie.Need-loop-less Inv-loop μ-loop
 loop-less c = search needs
 
--- src/lib.rt:152:5
 loop-again : tie.Need-loop-again Inv-loop μ-loop
 loop-again c =
     let put-cut-at = c .before .before .before .before .before in

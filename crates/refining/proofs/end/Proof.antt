@@ -3,9 +3,6 @@ use mathlib.Core.Path.{refl}
 use borrow.Author.Needs.{needs}
 use Rattle.refining.proofs.end.Statement.{statement}
 use Rattle.refining.proofs.end.Tie as tie
-use Rattle.refining.proofs.end.Reads as reads
-use Rattle.refining.proofs.end.Lts as lts
-use Rattle.refining.proofs.left_open.Reads as left-open-reads
 
 add-blocks : tie.Need-add-blocks
 add-blocks c = search needs

@@ -6,40 +6,28 @@ use mathlib.Core.Path.{_∙_}
 use borrow.Author.Needs.{needs}
 use Rattle.refining.proofs.look.Statement.{statement}
 use Rattle.refining.proofs.look.Tie as tie
-use Rattle.refining.proofs.look.Reads as reads
-use Rattle.refining.proofs.look.Lts as lts
-use Rattle.refining.proofs.see.Reads as see-reads
-use Rattle.settling.proofs.fill_distances.Reads as fill-distances-reads
-use Rattle.walk.proofs.follow.Reads as follow-reads
 
--- src/lib.rt:85:5
 fill-distances-requires : tie.Need-fill-distances-requires
 fill-distances-requires c κs = search needs
 
--- src/lib.rt:86:14
 cast-at : tie.Need-cast-at
 cast-at c = search needs
 
--- src/lib.rt:87:15
 mul-far : tie.Need-mul-far
 mul-far c = search needs
 
--- src/lib.rt:87:15
 element-copy-out-far : tie.Need-element-copy-out-far
 element-copy-out-far c =
     let p = c .before .before .before .pre in
     let r = p .1 in
     omega (arith, from-made (r .task) (r .cuts) (r .tabled) (r .parted) (p .0 .0), p .0 .0)
 
--- src/lib.rt:88:8
 cast-if1 : tie.Need-cast-if1
 cast-if1 c = search needs
 
--- src/lib.rt:88:8
 mul-if1 : tie.Need-mul-if1
 mul-if1 c = search needs
 
--- src/lib.rt:89:9
 returns : tie.Need-returns
 unfolding lookOf KnownSeen
 returns c =
@@ -49,7 +37,6 @@ returns c =
       (tt, e .1, p .0 .2),
     )
 
--- src/lib.rt:91:9
 follow-requires : tie.Need-follow-requires
 follow-requires c κs =
     let p = c .before .before .before .before .before .before .before .pre in
@@ -59,11 +46,9 @@ follow-requires c κs =
       (steps-small (r .task) (r .cuts) (r .tabled) (r .parted) (p .0 .0) (c .before .before .before .before .before .before .before .args .dist .now) d (c .before .before .if1 .left), p .0 .2),
     )
 
--- src/lib.rt:92:5
 see-requires : tie.Need-see-requires
 see-requires c κs = search needs
 
--- src/lib.rt:69:1
 returns-2 : tie.Need-returns-2
 returns-2 c =
     let p = c .before .before .before .before .before .before .before .before .before .pre in

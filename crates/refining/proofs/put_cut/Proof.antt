@@ -6,8 +6,6 @@ use Rattle.blocks.specs.Flat.{cutPlace}
 use borrow.Author.Needs.{needs}
 use Rattle.refining.proofs.put_cut.Statement.{statement}
 use Rattle.refining.proofs.put_cut.Tie as tie
-use Rattle.refining.proofs.put_cut.Reads as reads
-use Rattle.refining.proofs.put_cut.Lts as lts
 
 mul-place : tie.Need-mul-place
 mul-place c = search needs

@@ -3,8 +3,6 @@ use Rattle.refining.specs.Refining.{seenBy}
 use borrow.Author.Needs.{needs}
 use Rattle.refining.proofs.see.Statement.{statement}
 use Rattle.refining.proofs.see.Tie as tie
-use Rattle.refining.proofs.see.Reads as reads
-use Rattle.refining.proofs.see.Lts as lts
 
 enum-known-found : tie.Need-enum-known-found
 enum-known-found c = search needs

@@ -6,44 +6,33 @@ use mathlib.Core.Path.{_≡_, refl}
 use borrow.Author.Needs.{needs}
 use Rattle.refining.proofs.start_block.Statement.{statement}
 use Rattle.refining.proofs.start_block.Tie as tie
-use Rattle.refining.proofs.start_block.Reads as reads
-use Rattle.refining.proofs.start_block.Lts as lts
 
--- src/lib.rt:121:9
 returns : tie.Need-returns
 unfolding startBlock
 returns c = rw (ne-eqb _ _ (c .if1 .taken)) refl
 
--- src/lib.rt:123:14
 mul-at : tie.Need-mul-at
 mul-at c = search needs
 
--- src/lib.rt:123:46
 cast-at : tie.Need-cast-at
 cast-at c = search needs
 
--- src/lib.rt:123:14
 add-at : tie.Need-add-at
 add-at c = search needs
 
--- src/lib.rt:124:8
 mul-if2 : tie.Need-mul-if2
 mul-if2 c = search needs
 
--- src/lib.rt:124:8
 element-copy-out-if2 : tie.Need-element-copy-out-if2
 element-copy-out-if2 c = search needs
 
--- src/lib.rt:125:9
 returns-2 : tie.Need-returns-2
 unfolding startBlock isEmpty common past
 returns-2 c = rw (eq-eqb _ _ (c .before .before .before .before .if1 .left), eq-eqb _ _ (c .if2 .taken)) refl
 
--- src/lib.rt:127:11
 cast-t13 : tie.Need-cast-t13
 cast-t13 c = search needs
 
--- src/lib.rt:116:1
 returns-3 : tie.Need-returns-3
 unfolding startBlock isEmpty common past
 returns-3 c = rw (eq-eqb _ _ (c .before .before .before .before .if1 .left), ne-eqb _ _ (c .if2 .left)) refl

@@ -5,43 +5,32 @@ use Rattle.cut_sheets.specs.CutSheet.{cutsOf}
 use borrow.Author.Needs.{needs}
 use Rattle.replaying.proofs.replay.Statement.{statement}
 use Rattle.replaying.proofs.replay.Tie as tie
-use Rattle.replaying.proofs.replay.Reads as reads
-use Rattle.replaying.proofs.replay.Lts as lts
-use Rattle.cut_reading.proofs.judge_cut_sheet.Reads as judge-cut-sheet-reads
-use Rattle.replaying.proofs.replay_on.Reads as replay-on-reads
 
--- src/lib.rt:181:9
 judge-cut-sheet-requires : tie.Need-judge-cut-sheet-requires
 judge-cut-sheet-requires c κs = search needs
 
--- src/lib.rt:183:9
 returns : tie.Need-returns
 returns c = let g = c .before .before .before .before .before .before .args in
     sheets-refused (g .model .now) (g .sheet .now) (g .log .now) (g .rows .now) (c .before .judge-cut-sheet .ensures) (c .if1 .taken)
 
--- src/lib.rt:186:9
 returns-2 : tie.Need-returns-2
 returns-2 c = let g = c .before .before .before .before .before .before .before .args in
     long-refused (g .model .now) (g .sheet .now) (g .log .now) (g .rows .now) (c .before .before .judge-cut-sheet .ensures) (c .before .if1 .left) (c .if2 .taken)
 
--- src/lib.rt:189:22
 sub-replay-on : tie.Need-sub-replay-on
 sub-replay-on c = let g = c .before .before .before .before .before .before .before .args in
     start-within (g .model .now) (g .sheet .now) [] (c .before .before .judge-cut-sheet .ensures) (c .before .if1 .left)
 
--- src/lib.rt:189:22
 part-replay-on-start : tie.Need-part-replay-on-start
 part-replay-on-start c = let g = c .before .before .before .before .before .before .before .args in
     let h = start-within (g .model .now) (g .sheet .now) [] (c .before .before .judge-cut-sheet .ensures) (c .before .if1 .left) in
     search needs
 
--- src/lib.rt:189:22
 part-replay-on-end : tie.Need-part-replay-on-end
 part-replay-on-end c = let g = c .before .before .before .before .before .before .before .args in
     let h = start-within (g .model .now) (g .sheet .now) [] (c .before .before .judge-cut-sheet .ensures) (c .before .if1 .left) in
     search needs
 
--- src/lib.rt:189:5
 replay-on-requires : tie.Need-replay-on-requires
 replay-on-requires c κs =
     let if1-at = c .before .before .before .before in
@@ -54,11 +43,9 @@ replay-on-requires c κs =
       c .before .before .before .if2 .left,
     )
 
--- src/lib.rt:177:1
 same-length : tie.Need-same-length
 same-length c = search needs
 
--- src/lib.rt:177:1
 returns-3 : tie.Need-returns-3
 unfolding cutsOf
 returns-3 c =

@@ -11,24 +11,13 @@ use Rattle.replaying.proofs.RowsLaws.{within, here-long, stop-known, kn
 use borrow.Author.Needs.{needs}
 use Rattle.replaying.proofs.replay_on.Statement.{statement}
 use Rattle.replaying.proofs.replay_on.Tie as tie
-use Rattle.replaying.proofs.replay_on.Reads as reads
-use Rattle.replaying.proofs.replay_on.Lts as lts
-use Rattle.along.proofs.fill_along.Reads as fill-along-reads
-use Rattle.along.proofs.judge_log.Reads as judge-log-reads
-use Rattle.asking.proofs.measure.Reads as measure-reads
-use Rattle.figures.proofs.put_rows.Reads as put-rows-reads
-use Rattle.preparing.proofs.prepare.Reads as prepare-reads
-use Rattle.standing.proofs.stand.Reads as stand-reads
 
--- src/lib.rt:35:9
 prepare-requires : tie.Need-prepare-requires
 prepare-requires c κs = search needs
 
--- src/lib.rt:39:5
 stand-requires : tie.Need-stand-requires
 stand-requires c κs = search needs
 
--- src/lib.rt:41:9
 judge-log-requires : tie.Need-judge-log-requires
 judge-log-requires c κs =
     let prepare-at = c .before .before .before .before .before .before .before in
@@ -38,7 +27,6 @@ judge-log-requires c κs =
     let p = prepare-at .prepare .ensures in
     let b = c .before .before .stand .ensures in (within (q .0) (g .log .now) p b, here-long (q .0) (g .log .now) p b, q .1)
 
--- src/lib.rt:43:9
 returns : tie.Need-returns
 returns c =
     let stand-at = c .before .before .before .before in
@@ -50,11 +38,9 @@ returns c =
     let b = stand-at .stand .ensures in
     stopped (taskOn (g .model .now)) _ (g .log .now) (g .rows .now) (c .before .judge-log .ensures ∙ stop-known (q .0) (g .log .now) p b) (c .if1 .taken)
 
--- src/lib.rt:45:21
 mul-if2 : tie.Need-mul-if2
 mul-if2 c = search needs
 
--- src/lib.rt:46:9
 returns-2 : tie.Need-returns-2
 returns-2 c =
     let stand-at = c .before .before .before .before .before in
@@ -67,19 +53,15 @@ returns-2 c =
     let good : badRow (taskOn (g .model .now)) (g .log .now) ≡ 0 = sym (stop-known (q .0) (g .log .now) p b) ∙ sym (c .before .before .judge-log .ensures) ∙ c .before .if1 .left in
     few-refused (taskOn (g .model .now)) _ (g .log .now) (g .rows .now) good (c .if2 .taken)
 
--- src/lib.rt:50:61
 slice-aggregate-measure : tie.Need-slice-aggregate-measure
 slice-aggregate-measure c = search needs
 
--- src/lib.rt:50:9
 measure-requires : tie.Need-measure-requires
 measure-requires c κs = search needs
 
--- src/lib.rt:57:9
 slice-aggregate-fill-along : tie.Need-slice-aggregate-fill-along
 slice-aggregate-fill-along c = search needs
 
--- src/lib.rt:53:5
 fill-along-requires : tie.Need-fill-along-requires
 fill-along-requires c κs =
     let measure-at = c .before .before .before .before .before .before in
@@ -103,11 +85,9 @@ fill-along-requires c κs =
       ),
     )
 
--- src/lib.rt:63:14
 slice-aggregate-put-rows : tie.Need-slice-aggregate-put-rows
 slice-aggregate-put-rows c = let o = c .before .before .before .before .before .before .before .before .before .before .before .before .before .before .before .before .before .before .before .before .before .before .before .prepare .ok in search (needs, o)
 
--- src/lib.rt:63:5
 put-rows-requires : tie.Need-put-rows-requires
 put-rows-requires c κs =
     let o = c .before .before .before .before .before .before .before .before .before .before .before .before .before .before .before .before .before .before .before .before .before .before .before .before .before .prepare .ok in
@@ -137,11 +117,9 @@ put-rows-requires c κs =
       ),
     )
 
--- src/lib.rt:22:1
 same-length : tie.Need-same-length
 same-length c = search needs
 
--- src/lib.rt:22:1
 returns-3 : tie.Need-returns-3
 returns-3 c =
     let fill-along-at = c .before .before .before .before .before in

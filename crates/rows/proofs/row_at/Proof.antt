@@ -3,8 +3,6 @@ use Rattle.rows.specs.Rows.{rowIn}
 use borrow.Author.Needs.{needs}
 use Rattle.rows.proofs.row_at.Statement.{statement}
 use Rattle.rows.proofs.row_at.Tie as tie
-use Rattle.rows.proofs.row_at.Reads as reads
-use Rattle.rows.proofs.row_at.Lts as lts
 
 mul-at : tie.Need-mul-at
 mul-at c = search needs

@@ -1,9 +1,6 @@
 use borrow.Author.Needs.{needs}
 use Rattle.rows.proofs.row_count.Statement.{statement}
 use Rattle.rows.proofs.row_count.Tie as tie
-use Rattle.rows.proofs.row_count.Reads as reads
-use Rattle.rows.proofs.row_count.Lts as lts
-use Rattle.running.proofs.Answer.row_count.Reads as row-count-reads
 
 row-count-requires : tie.Need-row-count-requires
 row-count-requires c κs = search needs

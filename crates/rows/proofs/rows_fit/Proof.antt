@@ -4,9 +4,6 @@ use Rattle.rows.proofs.FillLaws.{few-places, few-values, no-step, all-f
 use borrow.Author.Needs.{needs}
 use Rattle.rows.proofs.rows_fit.Statement.{statement}
 use Rattle.rows.proofs.rows_fit.Tie as tie
-use Rattle.rows.proofs.rows_fit.Reads as reads
-use Rattle.rows.proofs.rows_fit.Lts as lts
-use Rattle.rows.proofs.steps_named.Reads as steps-named-reads
 
 returns : tie.Need-returns
 returns c = let g = c .before .before .args in sym (few-places (g .places) (g .values .now) (g .n) (c .if1 .taken))

@@ -7,10 +7,6 @@ use Rattle.rows.proofs.RowRunLaws.{told-in}
 use borrow.Author.Needs.{needs}
 use Rattle.rows.proofs.run_for.Statement.{statement}
 use Rattle.rows.proofs.run_for.Tie as tie
-use Rattle.rows.proofs.run_for.Reads as reads
-use Rattle.rows.proofs.run_for.Lts as lts
-use Rattle.values.proofs.usable_places.Reads as usable-places-reads
-use Rattle.running.proofs.run.Reads as run-reads
 
 sub-usable-places : tie.Need-sub-usable-places
 sub-usable-places c = search needs

@@ -10,8 +10,6 @@ use Rattle.rows.specs.Rows.{stepsNamed}
 use borrow.Author.Needs.{needs}
 use Rattle.rows.proofs.steps_named.Statement.{statement}
 use Rattle.rows.proofs.steps_named.Tie as tie
-use Rattle.rows.proofs.steps_named.Reads as reads
-use Rattle.rows.proofs.steps_named.Lts as lts
 
 abbrev Inv-loop : tie.InvT-loop
 Inv-loop values n i₀ i = (stepsNamed values i ≡ true) × (i ≤ n)

@@ -4,8 +4,6 @@ use Rattle.running.specs.Counts.{cutValueCount, Counted}
 use borrow.Author.Needs.{needs}
 use Rattle.running.proofs.cut_values.Statement.{statement}
 use Rattle.running.proofs.cut_values.Tie as tie
-use Rattle.running.proofs.cut_values.Reads as reads
-use Rattle.running.proofs.cut_values.Lts as lts
 
 enum-known-answer : tie.Need-enum-known-answer
 enum-known-answer c = search needs

@@ -5,9 +5,6 @@ use native.Mathlib.Omega.{arith}
 use borrow.Author.Needs.{needs}
 use Rattle.running.proofs.fill_rows.Statement.{statement}
 use Rattle.running.proofs.fill_rows.Tie as tie
-use Rattle.running.proofs.fill_rows.Reads as reads
-use Rattle.running.proofs.fill_rows.Lts as lts
-use Rattle.task.proofs.tenths.Reads as tenths-reads
 
 abbrev Inv-loop : tie.InvT-loop
 Inv-loop count path cost list₀ left₀ i₀ list left i = RowsFrom count path cost list₀ list left i

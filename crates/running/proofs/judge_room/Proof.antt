@@ -2,8 +2,6 @@ use Rattle.running.proofs.RunningLaws.{no-room, large-room, few-cuts, f
 use borrow.Author.Needs.{needs}
 use Rattle.running.proofs.judge_room.Statement.{statement}
 use Rattle.running.proofs.judge_room.Tie as tie
-use Rattle.running.proofs.judge_room.Reads as reads
-use Rattle.running.proofs.judge_room.Lts as lts
 
 returns : tie.Need-returns
 returns c = no-room (c .before .args .room) (c .before .args .cuts .now) (c .before .args .rows .now) (c .if1 .taken)

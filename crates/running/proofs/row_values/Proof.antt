@@ -5,9 +5,6 @@ use Rattle.running.proofs.CountLaws.{few-rows}
 use borrow.Author.Needs.{needs}
 use Rattle.running.proofs.row_values.Statement.{statement}
 use Rattle.running.proofs.row_values.Tie as tie
-use Rattle.running.proofs.row_values.Reads as reads
-use Rattle.running.proofs.row_values.Lts as lts
-use Rattle.running.proofs.Answer.row_count.Reads as row-count-reads
 
 row-count-requires : tie.Need-row-count-requires
 row-count-requires c κs = search needs

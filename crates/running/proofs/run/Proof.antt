@@ -5,42 +5,27 @@ use native.Mathlib.Omega.{arith}
 use borrow.Author.Needs.{needs}
 use Rattle.running.proofs.run.Statement.{statement}
 use Rattle.running.proofs.run.Tie as tie
-use Rattle.running.proofs.run.Reads as reads
-use Rattle.running.proofs.run.Lts as lts
-use Rattle.preparing.proofs.fill_whole.Reads as fill-whole-reads
-use Rattle.preparing.proofs.prepare.Reads as prepare-reads
-use Rattle.refining.proofs.refine.Reads as refine-reads
-use Rattle.running.proofs.judge_room.Reads as judge-room-reads
-use Rattle.running.proofs.tell.Reads as tell-reads
-use Rattle.sheets.proofs.judge_sheet.Reads as judge-sheet-reads
 
--- src/lib.rt:109:9
 judge-sheet-requires : tie.Need-judge-sheet-requires
 judge-sheet-requires c κs = search needs
 
--- src/lib.rt:111:9
 returns : tie.Need-returns
 returns c = let g = c .before .before .before .before .before .args in
     sheet-refused (g .sheet .now) (g .room) (g .cuts .now) (g .rows .now) (c .before .judge-sheet .ensures) (c .if1 .taken)
 
--- src/lib.rt:113:9
 judge-room-requires : tie.Need-judge-room-requires
 judge-room-requires c κs = search needs
 
--- src/lib.rt:115:9
 same-length : tie.Need-same-length
 same-length c = search needs
 
--- src/lib.rt:115:9
 same-length-2 : tie.Need-same-length-2
 same-length-2 c = search needs
 
--- src/lib.rt:115:9
 returns-2 : tie.Need-returns-2
 returns-2 c = let g = c .before .before .before .before .before .before .before .before .before .args in
     room-refused (g .sheet .now) (g .room) (g .cuts .now) (g .rows .now) (c .before .before .before .before .before .judge-sheet .ensures) (c .before .before .before .before .if1 .left) (c .before .judge-room .ensures) (c .if2 .taken)
 
--- src/lib.rt:117:17
 sub-spare : tie.Need-sub-spare
 sub-spare c =
     let g = c .before .before .before .before .before .before .before .before .before .args in
@@ -48,11 +33,9 @@ sub-spare c =
     let h = f .some in
     search (needs, h)
 
--- src/lib.rt:119:9
 prepare-requires : tie.Need-prepare-requires
 prepare-requires c κs = search needs
 
--- src/lib.rt:124:5
 fill-whole-requires : tie.Need-fill-whole-requires
 fill-whole-requires c κs =
     let if2-at = c .before .before .before .before .before in
@@ -70,7 +53,6 @@ fill-whole-requires c κs =
       search needs,
     )
 
--- src/lib.rt:126:9
 refine-requires : tie.Need-refine-requires
 refine-requires c κs =
     let fill-whole-at = c .before .before .before .before .before in
@@ -95,7 +77,6 @@ refine-requires c κs =
       ),
     )
 
--- src/lib.rt:127:5
 tell-requires : tie.Need-tell-requires
 tell-requires c κs =
     let refine-at = c .before .before .before .before .before in
@@ -118,15 +99,12 @@ tell-requires c κs =
       room-for-steps (g .sheet .now) (g .room) (g .cuts .now) (g .rows .now) e z j k p w,
     )
 
--- src/lib.rt:106:1
 same-length-3 : tie.Need-same-length-3
 same-length-3 c = search needs
 
--- src/lib.rt:106:1
 same-length-4 : tie.Need-same-length-4
 same-length-4 c = search needs
 
--- src/lib.rt:106:1
 returns-3 : tie.Need-returns-3
 returns-3 c =
     let refine-at = c .before .before .before .before .before .before .before .before in

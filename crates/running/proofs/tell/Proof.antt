@@ -8,9 +8,6 @@ use Rattle.running.proofs.RunningLaws.{plan-told}
 use borrow.Author.Needs.{needs}
 use Rattle.running.proofs.tell.Statement.{statement}
 use Rattle.running.proofs.tell.Tie as tie
-use Rattle.running.proofs.tell.Reads as reads
-use Rattle.running.proofs.tell.Lts as lts
-use Rattle.running.proofs.fill_rows.Reads as fill-rows-reads
 
 enum-known-ended : tie.Need-enum-known-ended
 enum-known-ended c = search needs

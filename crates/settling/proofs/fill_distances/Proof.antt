@@ -9,11 +9,6 @@ use Rattle.settling.proofs.JoinLaws.{all-coded}
 use borrow.Author.Needs.{needs}
 use Rattle.settling.proofs.fill_distances.Statement.{statement}
 use Rattle.settling.proofs.fill_distances.Tie as tie
-use Rattle.settling.proofs.fill_distances.Reads as reads
-use Rattle.settling.proofs.fill_distances.Lts as lts
-use Rattle.arcs.proofs.fill_able.Reads as fill-able-reads
-use Rattle.settling.proofs.settle.Reads as settle-reads
-use Rattle.settling.proofs.start.Reads as start-reads
 
 sub-used : tie.Need-sub-used
 sub-used c = search needs

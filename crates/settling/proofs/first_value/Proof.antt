@@ -1,8 +1,6 @@
 use borrow.Author.Needs.{needs}
 use Rattle.settling.proofs.first_value.Statement.{statement}
 use Rattle.settling.proofs.first_value.Tie as tie
-use Rattle.settling.proofs.first_value.Reads as reads
-use Rattle.settling.proofs.first_value.Lts as lts
 
 returns : tie.Need-returns
 returns c = search needs

@@ -6,10 +6,6 @@ use Rattle.settling.proofs.LowerLaws.{no-landing, lands-there}
 use borrow.Author.Needs.{needs}
 use Rattle.settling.proofs.lower.Statement.{statement}
 use Rattle.settling.proofs.lower.Tie as tie
-use Rattle.settling.proofs.lower.Reads as reads
-use Rattle.settling.proofs.lower.Lts as lts
-use Rattle.arcs.proofs.fits_in.Reads as fits-in-reads
-use Rattle.settling.proofs.sweep.Reads as sweep-reads
 
 add-fits-in : tie.Need-add-fits-in
 add-fits-in c = search needs

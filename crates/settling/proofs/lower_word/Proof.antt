@@ -11,9 +11,6 @@ use Rattle.settling.proofs.LowerLaws.{lowered-skip, lowered-set, lowere
 use borrow.Author.Needs.{needs}
 use Rattle.settling.proofs.lower_word.Statement.{statement}
 use Rattle.settling.proofs.lower_word.Tie as tie
-use Rattle.settling.proofs.lower_word.Reads as reads
-use Rattle.settling.proofs.lower_word.Lts as lts
-use Rattle.arcs.proofs.has_bit.Reads as has-bit-reads
 
 abbrev Inv-loop : tie.InvT-loop
 Inv-loop w v k dist₀ row i₀ dist i = (i ≤ word) × (length dist ≡ limits .blocks) × Lowered (inWord w v) k (w * word + i) dist₀ dist

@@ -5,8 +5,6 @@ use Rattle.settling.proofs.PickLaws.{Scan, scan-start, scan-skip, scan-
 use borrow.Author.Needs.{needs}
 use Rattle.settling.proofs.nearest.Statement.{statement}
 use Rattle.settling.proofs.nearest.Tie as tie
-use Rattle.settling.proofs.nearest.Reads as reads
-use Rattle.settling.proofs.nearest.Lts as lts
 
 abbrev Inv-loop : tie.InvT-loop
 Inv-loop count dist done best₀ low₀ i₀ best low i = (i ≤ count) × Scan count dist done best low i

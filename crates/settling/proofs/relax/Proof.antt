@@ -2,12 +2,6 @@ use Rattle.settling.proofs.LowerLaws.{open-made}
 use borrow.Author.Needs.{needs}
 use Rattle.settling.proofs.relax.Statement.{statement}
 use Rattle.settling.proofs.relax.Tie as tie
-use Rattle.settling.proofs.relax.Reads as reads
-use Rattle.settling.proofs.relax.Lts as lts
-use Rattle.arcs.proofs.fill_meets.Reads as fill-meets-reads
-use Rattle.arcs.proofs.fill_narrow.Reads as fill-narrow-reads
-use Rattle.arcs.proofs.fill_open.Reads as fill-open-reads
-use Rattle.settling.proofs.tries.Reads as tries-reads
 
 fill-open-requires : tie.Need-fill-open-requires
 fill-open-requires c κs = search needs

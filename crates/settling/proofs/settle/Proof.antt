@@ -10,10 +10,6 @@ use Rattle.blocks.specs.Masks.{landsIn, goalsIn}
 use borrow.Author.Needs.{needs}
 use Rattle.settling.proofs.settle.Statement.{statement}
 use Rattle.settling.proofs.settle.Tie as tie
-use Rattle.settling.proofs.settle.Reads as reads
-use Rattle.settling.proofs.settle.Lts as lts
-use Rattle.settling.proofs.nearest.Reads as nearest-reads
-use Rattle.settling.proofs.relax.Reads as relax-reads
 
 abbrev Inv-loop : tie.InvT-loop
 Inv-loop columns count steps used tables costs sets able held₀ meets₀ left₀ narrow₀ done₀ dist₀ held meets left narrow done dist =

@@ -11,10 +11,6 @@ use Rattle.settling.proofs.LowerLaws.{started-none, started-more}
 use borrow.Author.Needs.{needs}
 use Rattle.settling.proofs.start.Statement.{statement}
 use Rattle.settling.proofs.start.Tie as tie
-use Rattle.settling.proofs.start.Reads as reads
-use Rattle.settling.proofs.start.Lts as lts
-use Rattle.masks.proofs.is_goal_block.Reads as is-goal-block-reads
-use Rattle.settling.proofs.first_value.Reads as first-value-reads
 
 abbrev Inv-loop : tie.InvT-loop
 Inv-loop columns count tables sets dist₀ a₀ dist a = (a ≤ count) × (length dist ≡ limits .blocks) × Started (goalBy columns (goalsIn tables) sets) a dist₀ dist

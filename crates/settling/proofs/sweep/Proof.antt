@@ -11,10 +11,6 @@ use mathlib.Core.Path.{_≡_, _∙_}
 use borrow.Author.Needs.{needs}
 use Rattle.settling.proofs.sweep.Statement.{statement}
 use Rattle.settling.proofs.sweep.Tie as tie
-use Rattle.settling.proofs.sweep.Reads as reads
-use Rattle.settling.proofs.sweep.Lts as lts
-use Rattle.arcs.proofs.kept_word.Reads as kept-word-reads
-use Rattle.settling.proofs.lower_word.Reads as lower-word-reads
 
 abbrev Inv-loop : tie.InvT-loop
 Inv-loop few used s k narrow tables able meets left dist₀ w₀ dist w = (w ≤ used) × (length dist ≡ limits .blocks) × Lowered (told few narrow (landsIn tables) able meets left s) k (w * word) dist₀ dist
@@ -22,55 +18,42 @@ Inv-loop few used s k narrow tables able meets left dist₀ w₀ dist w = (w ≤
 abbrev μ-loop : tie.MeasureT-loop
 μ-loop few used s k narrow tables able meets left dist₀ w₀ dist w = used - w
 
--- src/lib.rt:118:5
 loop-holds : tie.Need-loop-holds Inv-loop μ-loop
 loop-holds c = (omega arith, omega arith, lowered-end _ _ _ (lowered-none _ _ _) (omega arith))
 
--- src/lib.rt:119:26
 mul-first : tie.Need-mul-first Inv-loop μ-loop
 mul-first c = search needs
 
--- src/lib.rt:119:26
 add-first : tie.Need-add-first Inv-loop μ-loop
 add-first c = search needs
 
--- src/lib.rt:119:21
 mul-first-2 : tie.Need-mul-first-2 Inv-loop μ-loop
 mul-first-2 c = search needs
 
--- src/lib.rt:119:21
 element-copy-out-first : tie.Need-element-copy-out-first Inv-loop μ-loop
 element-copy-out-first c = search needs
 
--- src/lib.rt:119:50
 mul-first-3 : tie.Need-mul-first-3 Inv-loop μ-loop
 mul-first-3 c = search needs
 
--- src/lib.rt:119:50
 element-copy-out-first-2 : tie.Need-element-copy-out-first-2 Inv-loop μ-loop
 element-copy-out-first-2 c = search needs
 
--- src/lib.rt:120:32
 add-kept-word : tie.Need-add-kept-word Inv-loop μ-loop
 add-kept-word c = search needs
 
--- src/lib.rt:120:13
 kept-word-requires : tie.Need-kept-word-requires Inv-loop μ-loop
 kept-word-requires c κs = search needs
 
--- src/lib.rt:121:9
 lower-word-requires : tie.Need-lower-word-requires Inv-loop μ-loop
 lower-word-requires c κs = search needs
 
--- src/lib.rt:122:9
 add-w : tie.Need-add-w Inv-loop μ-loop
 add-w c = search needs
 
--- src/lib.rt:118:5
 loop-less : tie.Need-loop-less Inv-loop μ-loop
 loop-less c = search needs
 
--- src/lib.rt:118:5
 loop-again : tie.Need-loop-again Inv-loop μ-loop
 loop-again c =
     let l = c .before .before .before .before .before .before .loop in
@@ -80,7 +63,6 @@ loop-again c =
       word-more (l .w) _ (g .k) _ _ _ _ (l .inv .2) (c .lower-word .ensures .0) (λ i h. told-word (g .few) (g .narrow .now) (landsIn (g .tables .now)) (g .able .now) (g .meets .now) (g .left .now) (g .s) (l .w) _ i h (c .before .before .kept-word .ensures ∙ kept-row (g .tables .now) (g .s) (g .narrow .now) (g .meets .now) (l .w) _ (g .few))),
     )
 
--- src/lib.rt:102:1
 returns : tie.Need-returns Inv-loop μ-loop
 returns c =
     let l = c .before .loop in

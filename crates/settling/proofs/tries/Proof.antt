@@ -12,10 +12,6 @@ use Rattle.settling.proofs.LowerLaws.{Part, part-none, part-down, part-
 use borrow.Author.Needs.{needs}
 use Rattle.settling.proofs.tries.Statement.{statement}
 use Rattle.settling.proofs.tries.Tie as tie
-use Rattle.settling.proofs.tries.Reads as reads
-use Rattle.settling.proofs.tries.Lts as lts
-use Rattle.settling.proofs.lower.Reads as lower-reads
-use Rattle.settling.proofs.weigh.Reads as weigh-reads
 
 abbrev Inv-loop : tie.InvT-loop
 Inv-loop columns count steps few used b tables costs sets able meets left narrow dist₀ base s₀ dist s =

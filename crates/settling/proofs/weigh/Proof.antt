@@ -1,8 +1,6 @@
 use borrow.Author.Needs.{needs}
 use Rattle.settling.proofs.weigh.Statement.{statement}
 use Rattle.settling.proofs.weigh.Tie as tie
-use Rattle.settling.proofs.weigh.Reads as reads
-use Rattle.settling.proofs.weigh.Lts as lts
 
 mul-result : tie.Need-mul-result
 mul-result c = search needs

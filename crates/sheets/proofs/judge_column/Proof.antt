@@ -7,11 +7,6 @@ use Rattle.sheets.proofs.SheetLaws.{size-bad, start-bad, goal-last, fie
 use borrow.Author.Needs.{needs}
 use Rattle.sheets.proofs.judge_column.Statement.{statement}
 use Rattle.sheets.proofs.judge_column.Tie as tie
-use Rattle.sheets.proofs.judge_column.Reads as reads
-use Rattle.sheets.proofs.judge_column.Lts as lts
-use Rattle.fields.proofs.field.field.Reads as field-reads
-use Rattle.fields.proofs.field.judge_below.Reads as judge-below-reads
-use Rattle.fields.proofs.field.judge_field.Reads as judge-field-reads
 
 column-bits-requires : tie.Need-column-bits-requires
 column-bits-requires c κs = search needs

@@ -7,9 +7,6 @@ use Rattle.fields.proofs.JudgingLaws.{none, pass, hit, end}
 use borrow.Author.Needs.{needs}
 use Rattle.sheets.proofs.judge_columns.Statement.{statement}
 use Rattle.sheets.proofs.judge_columns.Tie as tie
-use Rattle.sheets.proofs.judge_columns.Reads as reads
-use Rattle.sheets.proofs.judge_columns.Lts as lts
-use Rattle.sheets.proofs.judge_column.Reads as judge-column-reads
 
 abbrev Inv-loop : tie.InvT-loop
 Inv-loop s n i₀ i =

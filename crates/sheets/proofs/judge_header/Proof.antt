@@ -2,9 +2,6 @@ use Rattle.sheets.proofs.SheetLaws.{form-bad, columns-bad, steps-last}
 use borrow.Author.Needs.{needs}
 use Rattle.sheets.proofs.judge_header.Statement.{statement}
 use Rattle.sheets.proofs.judge_header.Tie as tie
-use Rattle.sheets.proofs.judge_header.Reads as reads
-use Rattle.sheets.proofs.judge_header.Lts as lts
-use Rattle.fields.proofs.field.judge_field.Reads as judge-field-reads
 
 judge-field-requires : tie.Need-judge-field-requires
 judge-field-requires c κs = search needs

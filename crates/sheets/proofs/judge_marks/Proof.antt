@@ -6,11 +6,6 @@ use Rattle.sheets.proofs.SheetLaws.{need-bad, effect-last, field-at}
 use borrow.Author.Needs.{needs}
 use Rattle.sheets.proofs.judge_marks.Statement.{statement}
 use Rattle.sheets.proofs.judge_marks.Tie as tie
-use Rattle.sheets.proofs.judge_marks.Reads as reads
-use Rattle.sheets.proofs.judge_marks.Lts as lts
-use Rattle.fields.proofs.field.field.Reads as field-reads
-use Rattle.fields.proofs.field.judge_field.Reads as judge-field-reads
-use Rattle.sheets.proofs.model_bits.Reads as model-bits-reads
 
 column-bits-requires : tie.Need-column-bits-requires
 column-bits-requires c κs = search needs

@@ -6,14 +6,6 @@ use Rattle.sheets.proofs.SheetLaws.{header-fine, part-header, part-colu
 use borrow.Author.Needs.{needs}
 use Rattle.sheets.proofs.judge_part.Statement.{statement}
 use Rattle.sheets.proofs.judge_part.Tie as tie
-use Rattle.sheets.proofs.judge_part.Reads as reads
-use Rattle.sheets.proofs.judge_part.Lts as lts
-use Rattle.fields.proofs.field.field.Reads as field-reads
-use Rattle.fields.proofs.field.judge_field.Reads as judge-field-reads
-use Rattle.sheets.proofs.judge_columns.Reads as judge-columns-reads
-use Rattle.sheets.proofs.judge_header.Reads as judge-header-reads
-use Rattle.sheets.proofs.judge_steps.Reads as judge-steps-reads
-use Rattle.sheets.proofs.model_bits.Reads as model-bits-reads
 
 judge-header-requires : tie.Need-judge-header-requires
 judge-header-requires c κs = search needs

@@ -8,11 +8,6 @@ use Rattle.fields.proofs.JudgingLaws.{none, pass, hit, end}
 use borrow.Author.Needs.{needs}
 use Rattle.sheets.proofs.judge_step.Statement.{statement}
 use Rattle.sheets.proofs.judge_step.Tie as tie
-use Rattle.sheets.proofs.judge_step.Reads as reads
-use Rattle.sheets.proofs.judge_step.Lts as lts
-use Rattle.fields.proofs.field.judge_free.Reads as judge-free-reads
-use Rattle.sheets.proofs.judge_marks.Reads as judge-marks-reads
-use Rattle.sheets.proofs.model_bits.Reads as model-bits-reads
 
 abbrev Inv-loop : tie.InvT-loop
 Inv-loop s n j a i₀ i =

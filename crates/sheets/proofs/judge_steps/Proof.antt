@@ -7,9 +7,6 @@ use Rattle.fields.proofs.JudgingLaws.{none, pass, hit, end}
 use borrow.Author.Needs.{needs}
 use Rattle.sheets.proofs.judge_steps.Statement.{statement}
 use Rattle.sheets.proofs.judge_steps.Tie as tie
-use Rattle.sheets.proofs.judge_steps.Reads as reads
-use Rattle.sheets.proofs.judge_steps.Lts as lts
-use Rattle.sheets.proofs.judge_step.Reads as judge-step-reads
 
 abbrev Inv-loop : tie.InvT-loop
 Inv-loop s n m j₀ j =

@@ -3,10 +3,6 @@ use mathlib.Core.Path.{sym}
 use borrow.Author.Needs.{needs}
 use Rattle.standing.proofs.back_cut.Statement.{statement}
 use Rattle.standing.proofs.back_cut.Tie as tie
-use Rattle.standing.proofs.back_cut.Reads as reads
-use Rattle.standing.proofs.back_cut.Lts as lts
-use Rattle.standing.proofs.cut_for.Reads as cut-for-reads
-use Rattle.standing.proofs.fill_back_wanted.Reads as fill-back-wanted-reads
 
 fill-back-wanted-requires : tie.Need-fill-back-wanted-requires
 fill-back-wanted-requires c κs = search needs

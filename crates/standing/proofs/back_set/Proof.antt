@@ -3,8 +3,6 @@ use Rattle.standing.specs.Standing.{backSet}
 use borrow.Author.Tests.{eq-eqb, ne-eqb}
 use Rattle.standing.proofs.back_set.Statement.{statement}
 use Rattle.standing.proofs.back_set.Tie as tie
-use Rattle.standing.proofs.back_set.Reads as reads
-use Rattle.standing.proofs.back_set.Lts as lts
 
 returns : tie.Need-returns
 unfolding backSet isEmpty

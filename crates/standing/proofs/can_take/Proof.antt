@@ -2,9 +2,6 @@ use Rattle.standing.specs.Standing.{takesBy}
 use borrow.Author.Needs.{needs}
 use Rattle.standing.proofs.can_take.Statement.{statement}
 use Rattle.standing.proofs.can_take.Tie as tie
-use Rattle.standing.proofs.can_take.Reads as reads
-use Rattle.standing.proofs.can_take.Lts as lts
-use Rattle.masks.proofs.all_lie.Reads as all-lie-reads
 
 cast-rs : tie.Need-cast-rs
 cast-rs c = search needs

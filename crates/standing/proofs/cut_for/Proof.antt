@@ -5,9 +5,6 @@ use lib.Seq.{getD-drop}
 use borrow.Author.Needs.{needs}
 use Rattle.standing.proofs.cut_for.Statement.{statement}
 use Rattle.standing.proofs.cut_for.Tie as tie
-use Rattle.standing.proofs.cut_for.Reads as reads
-use Rattle.standing.proofs.cut_for.Lts as lts
-use Rattle.standing.proofs.lowest_off.Reads as lowest-off-reads
 
 lowest-off-requires : tie.Need-lowest-off-requires
 lowest-off-requires c κs = search needs

@@ -12,9 +12,6 @@ use Rattle.task.specs.Sizes.{limits}
 use borrow.Author.Needs.{needs}
 use Rattle.standing.proofs.fill_back_wanted.Statement.{statement}
 use Rattle.standing.proofs.fill_back_wanted.Tie as tie
-use Rattle.standing.proofs.fill_back_wanted.Reads as reads
-use Rattle.standing.proofs.fill_back_wanted.Lts as lts
-use Rattle.standing.proofs.back_set.Reads as back-set-reads
 
 abbrev Inv-loop : tie.InvT-loop
 Inv-loop tables sets wanted₀ need land rb j₀ wanted j = (j ≤ limits .columns) × (length wanted ≡ limits .columns) × (wanted ≡ over (tab j (λ i. backSet (past tables need i) (past tables land i) (past sets rb i))) wanted₀)

@@ -5,9 +5,6 @@ use mathlib.Core.Path.{sym, _∙_}
 use borrow.Author.Needs.{needs}
 use Rattle.standing.proofs.is_goal.Statement.{statement}
 use Rattle.standing.proofs.is_goal.Tie as tie
-use Rattle.standing.proofs.is_goal.Reads as reads
-use Rattle.standing.proofs.is_goal.Lts as lts
-use Rattle.masks.proofs.all_lie.Reads as all-lie-reads
 
 mul-all-lie : tie.Need-mul-all-lie
 mul-all-lie c = search needs

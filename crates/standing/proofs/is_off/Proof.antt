@@ -3,8 +3,6 @@ use Rattle.standing.specs.Standing.{isOff}
 use borrow.Author.Tests.{eq-eqb, ne-eqb}
 use Rattle.standing.proofs.is_off.Statement.{statement}
 use Rattle.standing.proofs.is_off.Tie as tie
-use Rattle.standing.proofs.is_off.Reads as reads
-use Rattle.standing.proofs.is_off.Lts as lts
 
 returns : tie.Need-returns
 unfolding isOff isEmpty common

@@ -3,8 +3,6 @@ use Rattle.standing.specs.Standing.{landed}
 use borrow.Author.Tests.{eq-eqb, ne-eqb}
 use Rattle.standing.proofs.landed.Statement.{statement}
 use Rattle.standing.proofs.landed.Tie as tie
-use Rattle.standing.proofs.landed.Reads as reads
-use Rattle.standing.proofs.landed.Lts as lts
 
 returns : tie.Need-returns
 unfolding landed isEmpty

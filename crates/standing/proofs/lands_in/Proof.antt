@@ -12,9 +12,6 @@ use Rattle.standing.proofs.RowLaws.{lands-out, lands-inside, lands-rows
 use borrow.Author.Needs.{needs}
 use Rattle.standing.proofs.lands_in.Statement.{statement}
 use Rattle.standing.proofs.lands_in.Tie as tie
-use Rattle.standing.proofs.lands_in.Reads as reads
-use Rattle.standing.proofs.lands_in.Lts as lts
-use Rattle.standing.proofs.landed.Reads as landed-reads
 
 abbrev Inv-loop : tie.InvT-loop
 Inv-loop columns tables sets here rs rb j₀ j = (j ≤ columns) × (all j (λ i. not (isEmpty (common (landed (past tables rs i) (getD here i 0)) (past sets rb i)))) ≡ true)

@@ -10,9 +10,6 @@ use lib.ListN.{drop}
 use borrow.Author.Needs.{needs}
 use Rattle.standing.proofs.lowest_off.Statement.{statement}
 use Rattle.standing.proofs.lowest_off.Tie as tie
-use Rattle.standing.proofs.lowest_off.Reads as reads
-use Rattle.standing.proofs.lowest_off.Lts as lts
-use Rattle.standing.proofs.is_off.Reads as is-off-reads
 
 abbrev Inv-loop : tie.InvT-loop
 Inv-loop columns place wanted here j₀ j = (j ≤ columns) × (first j (offAt (drop place wanted) here) ≡ none)

@@ -2,9 +2,6 @@ use Rattle.blocks.specs.Masks.{rowsFrom}
 use borrow.Author.Needs.{needs}
 use Rattle.standing.proofs.row_cut.Statement.{statement}
 use Rattle.standing.proofs.row_cut.Tie as tie
-use Rattle.standing.proofs.row_cut.Reads as reads
-use Rattle.standing.proofs.row_cut.Lts as lts
-use Rattle.standing.proofs.cut_for.Reads as cut-for-reads
 
 mul-place : tie.Need-mul-place
 mul-place c = search needs

@@ -11,8 +11,6 @@ use Rattle.standing.specs.Standing.{atStart}
 use borrow.Author.Needs.{needs}
 use Rattle.standing.proofs.stand.Statement.{statement}
 use Rattle.standing.proofs.stand.Tie as tie
-use Rattle.standing.proofs.stand.Reads as reads
-use Rattle.standing.proofs.stand.Lts as lts
 
 abbrev Inv-loop : tie.InvT-loop
 Inv-loop tables here₀ row j₀ here j = (j ≤ limits .columns) × (length here ≡ limits .columns) × (here ≡ over (tab j (past tables row)) here₀)

@@ -12,9 +12,6 @@ use Rattle.standing.proofs.RowLaws.{landed-over, taken-rows}
 use borrow.Author.Needs.{needs}
 use Rattle.standing.proofs.take.Statement.{statement}
 use Rattle.standing.proofs.take.Tie as tie
-use Rattle.standing.proofs.take.Reads as reads
-use Rattle.standing.proofs.take.Lts as lts
-use Rattle.standing.proofs.landed.Reads as landed-reads
 
 abbrev Inv-loop : tie.InvT-loop
 Inv-loop columns tables here₀ rs j₀ here j = (j ≤ columns) × (length here ≡ limits .columns) × (here ≡ over (tab j (λ i. landed (past tables rs i) (getD here₀ i 0))) here₀)

@@ -6,41 +6,30 @@ use mathlib.Core.Path.{_≡_, refl}
 use borrow.Author.Needs.{needs}
 use Rattle.trace.proofs.fits.Statement.{statement}
 use Rattle.trace.proofs.fits.Tie as tie
-use Rattle.trace.proofs.fits.Reads as reads
-use Rattle.trace.proofs.fits.Lts as lts
-use Rattle.masks.proofs.leads.Reads as leads-reads
 
--- src/lib.rt:78:8
 mul-if1 : tie.Need-mul-if1
 mul-if1 c = search needs
 
--- src/lib.rt:78:8
 element-copy-out-if1 : tie.Need-element-copy-out-if1
 element-copy-out-if1 c = search needs
 
--- src/lib.rt:79:9
 returns : tie.Need-returns
 returns c = let g = c .before .before .args in
     let e : eqb (getD (g .dist .now) (g .b) 0) (g .rest) ≡ false = ne-eqb _ _ (c .if1 .taken) in
     rw e refl
 
--- src/lib.rt:83:14
 cast-t14 : tie.Need-cast-t14
 cast-t14 c = search needs
 
--- src/lib.rt:84:15
 cast-t16 : tie.Need-cast-t16
 cast-t16 c = search needs
 
--- src/lib.rt:85:15
 cast-t18 : tie.Need-cast-t18
 cast-t18 c = search needs
 
--- src/lib.rt:81:5
 leads-requires : tie.Need-leads-requires
 leads-requires c κs = search needs
 
--- src/lib.rt:65:1
 returns-2 : tie.Need-returns-2
 returns-2 c = rw (eq-eqb _ _ (c .before .if1 .left)) (c .leads .ensures)
 

@@ -12,11 +12,6 @@ use Rattle.task.proofs.LoopLaws.{first-nothing, first-more}
 use borrow.Author.Needs.{needs}
 use Rattle.trace.proofs.next_hop.Statement.{statement}
 use Rattle.trace.proofs.next_hop.Tie as tie
-use Rattle.trace.proofs.next_hop.Reads as reads
-use Rattle.trace.proofs.next_hop.Lts as lts
-use Rattle.trace.proofs.after.Reads as after-reads
-use Rattle.trace.proofs.fits.Reads as fits-reads
-use Rattle.trace.proofs.to_try.Reads as to-try-reads
 
 abbrev Inv-loop : tie.InvT-loop
 Inv-loop count tables costs sets dist columns steps from s b₀ last rest b = (b ≤ last) × (first b (nextIn (fitsBy columns tables (landsIn tables) costs sets dist from) s) ≡ none)
@@ -30,43 +25,33 @@ Inv-steps count tables costs sets dist columns steps from s₀ b₀ s b = (s ≤
 abbrev μ-steps : tie.MeasureT-steps
 μ-steps count tables costs sets dist columns steps from s₀ b₀ s b = steps - s
 
--- src/lib.rt:109:16
 cast-from : tie.Need-cast-from Inv-loop μ-loop Inv-steps μ-steps
 cast-from c = search needs
 
--- src/lib.rt:112:5
 steps-holds : tie.Need-steps-holds Inv-loop μ-loop Inv-steps μ-steps
 steps-holds c = (omega arith, first-nothing _)
 
--- src/lib.rt:113:13
 to-try-requires : tie.Need-to-try-requires Inv-loop μ-loop Inv-steps μ-steps
 to-try-requires c κs = search needs
 
--- src/lib.rt:114:26
 mul-after : tie.Need-mul-after Inv-loop μ-loop Inv-steps μ-steps
 mul-after c = search needs
 
--- src/lib.rt:114:26
 element-copy-out-after : tie.Need-element-copy-out-after Inv-loop μ-loop Inv-steps μ-steps
 element-copy-out-after c = search needs
 
--- src/lib.rt:114:38
 mul-after-2 : tie.Need-mul-after-2 Inv-loop μ-loop Inv-steps μ-steps
 mul-after-2 c = search needs
 
--- src/lib.rt:114:38
 element-copy-out-after-2 : tie.Need-element-copy-out-after-2 Inv-loop μ-loop Inv-steps μ-steps
 element-copy-out-after-2 c = search needs
 
--- src/lib.rt:114:13
 after-requires : tie.Need-after-requires Inv-loop μ-loop Inv-steps μ-steps
 after-requires c κs = search needs
 
--- src/lib.rt:116:9
 loop-holds : tie.Need-loop-holds Inv-loop μ-loop Inv-steps μ-steps
 loop-holds c = (omega arith, first-nothing _)
 
--- src/lib.rt:117:16
 fits-requires : tie.Need-fits-requires Inv-loop μ-loop Inv-steps μ-steps
 fits-requires c κs =
     let asked = c .before .before .before .before .before in
@@ -77,15 +62,12 @@ fits-requires c κs =
     (asked .to-try .ensures) (c .before .loop .b) (c .loop-test .taken) .1 in
     search (k, needs)
 
--- src/lib.rt:120:13
 add-b : tie.Need-add-b Inv-loop μ-loop Inv-steps μ-steps
 add-b c = search needs
 
--- src/lib.rt:116:9
 loop-less : tie.Need-loop-less Inv-loop μ-loop Inv-steps μ-steps
 loop-less c = search needs
 
--- src/lib.rt:116:9
 loop-again : tie.Need-loop-again Inv-loop μ-loop Inv-steps μ-steps
 loop-again c =
     let after-at = c .before .before .before .before in
@@ -104,15 +86,12 @@ loop-again c =
           (next-no _ s (l .b) _ (c .before .fits2 .ensures ∙ fits-rest (g .shape .columns) (g .tables .now) (landsIn (g .tables .now)) (g .costs .now) (g .sets .now) (g .dist .now) (g .a .0) s (l .b) _ may (after-at .after .ensures)) (c .if1 .left)),
     )
 
--- src/lib.rt:122:9
 add-s : tie.Need-add-s Inv-loop μ-loop Inv-steps μ-steps
 add-s c = search needs
 
--- src/lib.rt:112:5
 steps-less : tie.Need-steps-less Inv-loop μ-loop Inv-steps μ-steps
 steps-less c = search needs
 
--- src/lib.rt:112:5
 steps-again : tie.Need-steps-again Inv-loop μ-loop Inv-steps μ-steps
 steps-again c =
     let asked = c .before .before .before .before .before in
@@ -126,11 +105,9 @@ steps-again c =
           (g .a .0) (s .s) (g .count) _ (asked .to-try .ensures) (rw e at (l .inv .1))),
     )
 
--- src/lib.rt:125:23
 cast-t28 : tie.Need-cast-t28 Inv-loop μ-loop Inv-steps μ-steps
 cast-t28 c = search needs
 
--- src/lib.rt:125:39
 cast-t30 : tie.Need-cast-t30 Inv-loop μ-loop Inv-steps μ-steps
 cast-t30 c =
     let g = c .before .before .before .before .before .args in
@@ -145,7 +122,6 @@ cast-t30 c =
     (c .before .before .steps-test .came) in
     search (k, needs)
 
--- src/lib.rt:92:1
 returns : tie.Need-returns Inv-loop μ-loop Inv-steps μ-steps
 unfolding hopOf
 returns c =
@@ -163,7 +139,6 @@ returns c =
     (next-yes f (s .s) (w .5 .b) _ (w .7 .ensures ∙ fits-rest (g .shape .columns) (g .tables .now) (landsIn (g .tables .now)) (g .costs .now) (g .sets .now) (g .dist .now) (g .a .0) (s .s) (w .5 .b) _ (k .0) (w .4 .ensures)) (w .8 .taken)))))
     (c .before .before .steps-test .came))
 
--- src/lib.rt:92:1
 returns-2 : tie.Need-returns-2 Inv-loop μ-loop Inv-steps μ-steps
 unfolding hopOf nextBy
 returns-2 c =

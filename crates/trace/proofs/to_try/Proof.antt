@@ -6,48 +6,35 @@ use Rattle.trace.specs.Hops.{mayTake}
 use borrow.Author.Needs.{needs}
 use Rattle.trace.proofs.to_try.Statement.{statement}
 use Rattle.trace.proofs.to_try.Tie as tie
-use Rattle.trace.proofs.to_try.Reads as reads
-use Rattle.trace.proofs.to_try.Lts as lts
-use Rattle.arcs.proofs.fits_in.Reads as fits-in-reads
-use Rattle.settling.proofs.weigh.Reads as weigh-reads
 
--- src/lib.rt:55:8
 mul-if1 : tie.Need-mul-if1
 mul-if1 c = search needs
 
--- src/lib.rt:55:8
 element-copy-out-if1 : tie.Need-element-copy-out-if1
 element-copy-out-if1 c = search needs
 
--- src/lib.rt:55:24
 mul-weigh : tie.Need-mul-weigh
 mul-weigh c = search needs
 
--- src/lib.rt:55:24
 element-copy-out-weigh : tie.Need-element-copy-out-weigh
 element-copy-out-weigh c = search needs
 
--- src/lib.rt:55:18
 weigh-requires : tie.Need-weigh-requires
 weigh-requires c κs = search needs
 
--- src/lib.rt:56:9
 returns : tie.Need-returns
 unfolding mayTake
 returns c = rw (lt-ltb _ _ (rw (c .before .weigh .ensures .0) at (c .if1 .taken)))
 
--- src/lib.rt:58:9
 fits-in-requires : tie.Need-fits-in-requires
 fits-in-requires c κs = search needs
 
--- src/lib.rt:59:9
 returns-2 : tie.Need-returns-2
 unfolding mayTake
 returns-2 c = let g = c .before .before .before .before .before .before .args in
     let f : fitsIn (g .columns) (g .tables .now) (g .sets .now) (g .s) (g .a) ≡ false = rw (c .before .fits-in .ensures) at (not-true (c .before .fits-in .result) (c .if2 .taken)) in
     rw (le-ltb _ _ (rw (c .before .before .before .weigh .ensures .0) at (c .before .before .if1 .left)), f) refl
 
--- src/lib.rt:42:1
 returns-3 : tie.Need-returns-3
 unfolding mayTake
 returns-3 c = let g = c .before .before .before .before .before .before .args in

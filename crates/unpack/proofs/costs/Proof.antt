@@ -12,10 +12,6 @@ use Rattle.unpack.proofs.UnpackLaws.{unused-length}
 use borrow.Author.Needs.{needs}
 use Rattle.unpack.proofs.costs.Statement.{statement}
 use Rattle.unpack.proofs.costs.Tie as tie
-use Rattle.unpack.proofs.costs.Reads as reads
-use Rattle.unpack.proofs.costs.Lts as lts
-use Rattle.fields.proofs.field.field.Reads as field-reads
-use Rattle.sheets.proofs.model_bits.Reads as model-bits-reads
 
 abbrev Inv-loop : tie.InvT-loop
 Inv-loop s n m t₀ j₀ t j =

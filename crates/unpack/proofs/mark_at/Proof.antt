@@ -9,10 +9,6 @@ use Rattle.unpack.specs.Unpacking.{markOn}
 use borrow.Author.Needs.{needs}
 use Rattle.unpack.proofs.mark_at.Statement.{statement}
 use Rattle.unpack.proofs.mark_at.Tie as tie
-use Rattle.unpack.proofs.mark_at.Reads as reads
-use Rattle.unpack.proofs.mark_at.Lts as lts
-use Rattle.fields.proofs.field.field.Reads as field-reads
-use Rattle.sheets.proofs.model_bits.Reads as model-bits-reads
 
 model-bits-requires : tie.Need-model-bits-requires
 model-bits-requires c κs = search needs

@@ -11,9 +11,6 @@ use Rattle.unpack.proofs.UnpackLaws.{unused-length}
 use borrow.Author.Needs.{needs}
 use Rattle.unpack.proofs.marks.Statement.{statement}
 use Rattle.unpack.proofs.marks.Tie as tie
-use Rattle.unpack.proofs.marks.Reads as reads
-use Rattle.unpack.proofs.marks.Lts as lts
-use Rattle.unpack.proofs.mark_at.Reads as mark-at-reads
 
 abbrev Inv-loop : tie.InvT-loop
 Inv-loop s n m skip end t₀ k₀ t k =

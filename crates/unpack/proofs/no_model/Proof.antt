@@ -2,8 +2,6 @@ use mathlib.Core.Path.{refl}
 use Rattle.sheets.specs.Holding.{noModel, unused}
 use Rattle.unpack.proofs.no_model.Statement.{statement}
 use Rattle.unpack.proofs.no_model.Tie as tie
-use Rattle.unpack.proofs.no_model.Reads as reads
-use Rattle.unpack.proofs.no_model.Lts as lts
 
 returns : tie.Need-returns
 unfolding noModel unused

@@ -2,13 +2,6 @@ use Rattle.unpack.proofs.UnpackLaws.{tables-done}
 use borrow.Author.Needs.{needs}
 use Rattle.unpack.proofs.tables.Statement.{statement}
 use Rattle.unpack.proofs.tables.Tie as tie
-use Rattle.unpack.proofs.tables.Reads as reads
-use Rattle.unpack.proofs.tables.Lts as lts
-use Rattle.unpack.proofs.costs.Reads as costs-reads
-use Rattle.unpack.proofs.goals.Reads as goals-reads
-use Rattle.unpack.proofs.marks.Reads as marks-reads
-use Rattle.unpack.proofs.sizes.Reads as sizes-reads
-use Rattle.unpack.proofs.starts.Reads as starts-reads
 
 sizes-requires : tie.Need-sizes-requires
 sizes-requires c κs = search needs

@@ -3,10 +3,6 @@ use Rattle.sheets.proofs.SheetLaws.{part-fine, sheet-fine}
 use borrow.Author.Needs.{needs}
 use Rattle.unpack.proofs.unpack_accepted.Statement.{statement}
 use Rattle.unpack.proofs.unpack_accepted.Tie as tie
-use Rattle.unpack.proofs.unpack_accepted.Reads as reads
-use Rattle.unpack.proofs.unpack_accepted.Lts as lts
-use Rattle.fields.proofs.field.field.Reads as field-reads
-use Rattle.unpack.proofs.tables.Reads as tables-reads
 
 field-requires : tie.Need-field-requires
 field-requires c κs = search needs

@@ -3,11 +3,6 @@ use Rattle.unpack.proofs.UnpackLaws.{refuses, unpacks}
 use borrow.Author.Needs.{needs}
 use Rattle.unpack.proofs.unpack_model.Statement.{statement}
 use Rattle.unpack.proofs.unpack_model.Tie as tie
-use Rattle.unpack.proofs.unpack_model.Reads as reads
-use Rattle.unpack.proofs.unpack_model.Lts as lts
-use Rattle.sheets.proofs.judge_sheet.Reads as judge-sheet-reads
-use Rattle.unpack.proofs.no_model.Reads as no-model-reads
-use Rattle.unpack.proofs.unpack_accepted.Reads as unpack-accepted-reads
 
 judge-sheet-requires : tie.Need-judge-sheet-requires
 judge-sheet-requires c κs = search needs

@@ -4,8 +4,6 @@ use mathlib.Core.Path.{refl}
 use borrow.Author.Needs.{needs}
 use Rattle.values.proofs.get_value.Statement.{statement}
 use Rattle.values.proofs.get_value.Tie as tie
-use Rattle.values.proofs.get_value.Reads as reads
-use Rattle.values.proofs.get_value.Lts as lts
 
 mul-at : tie.Need-mul-at
 mul-at c = search needs

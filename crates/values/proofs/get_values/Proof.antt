@@ -8,9 +8,6 @@ use Rattle.values.specs.Values.{valueOn}
 use borrow.Author.Needs.{needs}
 use Rattle.values.proofs.get_values.Statement.{statement}
 use Rattle.values.proofs.get_values.Tie as tie
-use Rattle.values.proofs.get_values.Reads as reads
-use Rattle.values.proofs.get_values.Lts as lts
-use Rattle.values.proofs.get_value.Reads as get-value-reads
 
 abbrev Inv-loop : tie.InvT-loop
 Inv-loop bytes n values₀ k₀ values k = (k ≤ n) × (length values ≡ length values₀) × (values ≡ over (tab k (valueOn bytes)) values₀)

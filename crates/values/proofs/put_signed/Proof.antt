@@ -12,10 +12,6 @@ use borrow.Author.Needs.{needs, sfits-of}
 use mir.Facts.{toZ-ofZ}
 use Rattle.values.proofs.put_signed.Statement.{statement}
 use Rattle.values.proofs.put_signed.Tie as tie
-use Rattle.values.proofs.put_signed.Reads as reads
-use Rattle.values.proofs.put_signed.Lts as lts
-use Rattle.values.proofs.put_value.Reads as put-value-reads
-use Rattle.values.proofs.unsigned.Reads as unsigned-reads
 
 abbrev Inv-loop : tie.InvT-loop
 Inv-loop values n bytes₀ j₀ bytes j = (j ≤ n) × (length bytes ≡ length bytes₀) × (bytes ≡ puts 0 (each j (bytesAt (map twos values))) bytes₀)

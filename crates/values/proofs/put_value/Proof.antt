@@ -5,8 +5,6 @@ use Rattle.values.proofs.ValueLaws.{put-four}
 use borrow.Author.Needs.{needs}
 use Rattle.values.proofs.put_value.Statement.{statement}
 use Rattle.values.proofs.put_value.Tie as tie
-use Rattle.values.proofs.put_value.Reads as reads
-use Rattle.values.proofs.put_value.Lts as lts
 
 mul-at : tie.Need-mul-at
 mul-at c = search needs

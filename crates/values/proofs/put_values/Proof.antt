@@ -10,9 +10,6 @@ use Rattle.values.proofs.ValueLaws.{value-put, nothing-put}
 use borrow.Author.Needs.{needs}
 use Rattle.values.proofs.put_values.Statement.{statement}
 use Rattle.values.proofs.put_values.Tie as tie
-use Rattle.values.proofs.put_values.Reads as reads
-use Rattle.values.proofs.put_values.Lts as lts
-use Rattle.values.proofs.put_value.Reads as put-value-reads
 
 abbrev Inv-loop : tie.InvT-loop
 Inv-loop values n bytes₀ i₀ bytes i = (i ≤ n) × (length bytes ≡ length bytes₀) × (bytes ≡ puts 0 (each i (bytesAt values)) bytes₀)

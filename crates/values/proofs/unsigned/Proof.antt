@@ -4,8 +4,6 @@ use mir.Syntax.{w32, w64}
 use Rattle.values.proofs.SignedLaws.{widens, kept, turned-fits, turned-reads, casts}
 use Rattle.values.proofs.unsigned.Statement.{statement}
 use Rattle.values.proofs.unsigned.Tie as tie
-use Rattle.values.proofs.unsigned.Reads as reads
-use Rattle.values.proofs.unsigned.Lts as lts
 
 cast-wide : tie.Need-cast-wide
 cast-wide c = widens w32 w64 (c .args .v) (c .fits .v) tt

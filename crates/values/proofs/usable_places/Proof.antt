@@ -1,8 +1,6 @@
 use Rattle.values.proofs.UsableLaws.{many, all-of-them}
 use Rattle.values.proofs.usable_places.Statement.{statement}
 use Rattle.values.proofs.usable_places.Tie as tie
-use Rattle.values.proofs.usable_places.Reads as reads
-use Rattle.values.proofs.usable_places.Lts as lts
 
 returns : tie.Need-returns
 returns c = many (c .before .args .most) (c .before .args .places) (c .if1 .taken)

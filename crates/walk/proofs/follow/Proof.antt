@@ -10,11 +10,6 @@ use mathlib.Core.Logic.{⊎-elim}
 use borrow.Author.Needs.{needs}
 use Rattle.walk.proofs.follow.Statement.{statement}
 use Rattle.walk.proofs.follow.Tie as tie
-use Rattle.walk.proofs.follow.Reads as reads
-use Rattle.walk.proofs.follow.Lts as lts
-use Rattle.standing.proofs.stand.Reads as stand-reads
-use Rattle.walk.proofs.arrive.Reads as arrive-reads
-use Rattle.walk.proofs.hop.Reads as hop-reads
 
 abbrev Inv-loop : tie.InvT-loop
 Inv-loop shape count tables costs sets dist path₀ columns here₀ a0 n a₀ i₀ path here a i =
@@ -24,49 +19,38 @@ Inv-loop shape count tables costs sets dist path₀ columns here₀ a0 n a₀ i�
 abbrev μ-loop : tie.MeasureT-loop
 μ-loop shape count tables costs sets dist path₀ columns here₀ a0 n a₀ i₀ path here a i = n - i
 
--- src/lib.rt:116:5
 stand-requires : tie.Need-stand-requires Inv-loop μ-loop
 stand-requires c κs = search needs
 
--- src/lib.rt:117:14
 cast-a0 : tie.Need-cast-a0 Inv-loop μ-loop
 cast-a0 c = search needs
 
--- src/lib.rt:118:14
 mul-n : tie.Need-mul-n Inv-loop μ-loop
 mul-n c = search needs
 
--- src/lib.rt:118:14
 element-copy-out-n : tie.Need-element-copy-out-n Inv-loop μ-loop
 element-copy-out-n c = search needs
 
--- src/lib.rt:121:5
 loop-holds : tie.Need-loop-holds Inv-loop μ-loop
 loop-holds c =
     let b = c .before .before .stand .ensures in
     going-none _ _ _ _ _ _ _ _ _ _ _ _ _ (search needs) (ap length b ∙ start-long _) (search needs)
 
--- src/lib.rt:122:13
 hop-requires : tie.Need-hop-requires Inv-loop μ-loop
 hop-requires c κs = search needs
 
--- src/lib.rt:124:24
 enum-known-turn : tie.Need-enum-known-turn Inv-loop μ-loop
 enum-known-turn c = search needs
 
--- src/lib.rt:125:17
 element-write-path : tie.Need-element-write-path Inv-loop μ-loop
 element-write-path c = search needs
 
--- src/lib.rt:129:17
 enum-told : tie.Need-enum-told Inv-loop μ-loop
 enum-told c = search needs
 
--- src/lib.rt:131:26
 enum-known-turn-2 : tie.Need-enum-known-turn-2 Inv-loop μ-loop
 enum-known-turn-2 c = search needs
 
--- src/lib.rt:132:17
 returns : tie.Need-returns Inv-loop μ-loop
 returns c =
     let loop-test-at = c .before .before .before .before .before in
@@ -85,15 +69,12 @@ returns c =
     (known-flawed (g .shape .columns) (g .shape .steps) (g .count) (g .tables .now) (landsIn (g .tables .now)) (goalsIn (g .tables .now)) (g .costs .now) (g .sets .now) (g .dist .now) _ _ (l .i) (l .a) (l .here) (l .path) (l .inv) _)
     (l .inv .long)
 
--- src/lib.rt:135:9
 add-i : tie.Need-add-i Inv-loop μ-loop
 add-i c = search needs
 
--- src/lib.rt:121:5
 loop-less : tie.Need-loop-less Inv-loop μ-loop
 loop-less c = search needs
 
--- src/lib.rt:121:5
 loop-again : tie.Need-loop-again Inv-loop μ-loop
 loop-again c =
     let loop-test-at = c .before .before .before .before .before in
@@ -108,11 +89,9 @@ loop-again c =
     (l .a) (l .here) (l .path) (l .inv) (h .result) _ (h .ensures .0) (h .ensures .1 .0) (loop-test-at .loop-test .taken) (w .0 .0) (w .0 .1 .0) (w .1)
     (h .ensures .1 .1) (entry .pre .1 .0)
 
--- src/lib.rt:137:5
 arrive-requires : tie.Need-arrive-requires Inv-loop μ-loop
 arrive-requires c κs = let m = c .before .before .loop .inv .made in search (m, needs)
 
--- src/lib.rt:95:1
 returns-2 : tie.Need-returns-2 Inv-loop μ-loop
 returns-2 c =
     let g = c .before .before .before .before .before .before .before .before .args in

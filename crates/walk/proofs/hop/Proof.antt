@@ -8,28 +8,16 @@ use Rattle.blocks.specs.Masks.{landsIn}
 use borrow.Author.Needs.{needs}
 use Rattle.walk.proofs.hop.Statement.{statement}
 use Rattle.walk.proofs.hop.Tie as tie
-use Rattle.walk.proofs.hop.Reads as reads
-use Rattle.walk.proofs.hop.Lts as lts
-use Rattle.standing.proofs.back_cut.Reads as back-cut-reads
-use Rattle.standing.proofs.can_take.Reads as can-take-reads
-use Rattle.standing.proofs.lands_in.Reads as lands-in-reads
-use Rattle.standing.proofs.row_cut.Reads as row-cut-reads
-use Rattle.standing.proofs.take.Reads as take-reads
-use Rattle.trace.proofs.next_hop.Reads as next-hop-reads
 
--- src/lib.rt:62:9
 next-hop-requires : tie.Need-next-hop-requires
 next-hop-requires c κs = search needs
 
--- src/lib.rt:63:18
 enum-known-next : tie.Need-enum-known-next
 enum-known-next c = search needs
 
--- src/lib.rt:64:9
 enum-told : tie.Need-enum-told
 enum-told c = search needs
 
--- src/lib.rt:64:9
 returns : tie.Need-returns
 unfolding standsAfter
 returns c =
@@ -37,7 +25,6 @@ returns c =
     let n = c .before .before .next-hop in
     (turn-ended (g .shape .columns) (g .shape .steps) (g .count) (g .tables .now) (landsIn (g .tables .now)) (g .costs .now) (g .sets .now) (g .dist .now) (g .a) (g .here .now) _ (n .ensures .0) (c .enum-told .given .1), (refl, c .before .before .before .pre .3))
 
--- src/lib.rt:66:9
 can-take-requires : tie.Need-can-take-requires
 can-take-requires c κs =
     let g = c .before .before .before .before .before .args in
@@ -46,15 +33,12 @@ can-take-requires c κs =
     let h = hop-below (g .shape .columns) (g .shape .steps) (g .count) (g .tables .now) (landsIn (g .tables .now)) (g .costs .now) (g .sets .now) (g .dist .now) (g .a) (g .here .now) _ (n .ensures .0) (w .0 .0) (w .0 .1 .0) (w .1) in
     search (h, needs)
 
--- src/lib.rt:67:49
 cast-row-cut : tie.Need-cast-row-cut
 cast-row-cut c = search needs
 
--- src/lib.rt:67:29
 row-cut-requires : tie.Need-row-cut-requires
 row-cut-requires c κs = search needs
 
--- src/lib.rt:67:9
 returns-2 : tie.Need-returns-2
 unfolding standsAfter
 returns-2 c =
@@ -72,7 +56,6 @@ returns-2 c =
       (refl, entry .pre .3),
     )
 
--- src/lib.rt:69:9
 lands-in-requires : tie.Need-lands-in-requires
 lands-in-requires c κs =
     let g = c .before .before .before .before .before .before .before .before .args in
@@ -81,7 +64,6 @@ lands-in-requires c κs =
     let h = hop-below (g .shape .columns) (g .shape .steps) (g .count) (g .tables .now) (landsIn (g .tables .now)) (g .costs .now) (g .sets .now) (g .dist .now) (g .a) (g .here .now) _ (n .ensures .0) (w .0 .0) (w .0 .1 .0) (w .1) in
     search (h, needs)
 
--- src/lib.rt:70:29
 back-cut-requires : tie.Need-back-cut-requires
 back-cut-requires c κs =
     let next-at = c .before .before .before .before .before .before .before .before in
@@ -93,7 +75,6 @@ back-cut-requires c κs =
     let h = hop-below (g .shape .columns) (g .shape .steps) (g .count) (g .tables .now) (landsIn (g .tables .now)) (g .costs .now) (g .sets .now) (g .dist .now) (g .a) (g .here .now) _ (n .ensures .0) (w .0 .0) (w .0 .1 .0) (w .1) in
     search (h, needs)
 
--- src/lib.rt:70:9
 returns-3 : tie.Need-returns-3
 unfolding standsAfter
 returns-3 c =
@@ -113,7 +94,6 @@ returns-3 c =
       (refl, entry .pre .3),
     )
 
--- src/lib.rt:72:5
 take-requires : tie.Need-take-requires
 take-requires c κs =
     let next-at = c .before .before .before .before .before .before .before .before in
@@ -125,7 +105,6 @@ take-requires c κs =
     let h = hop-below (g .shape .columns) (g .shape .steps) (g .count) (g .tables .now) (landsIn (g .tables .now)) (g .costs .now) (g .sets .now) (g .dist .now) (g .a) (g .here .now) _ (n .ensures .0) (w .0 .0) (w .0 .1 .0) (w .1) in
     search (h, needs)
 
--- src/lib.rt:46:1
 returns-4 : tie.Need-returns-4
 unfolding standsAfter
 returns-4 c =

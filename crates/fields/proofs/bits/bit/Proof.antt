@@ -7,8 +7,6 @@ use native.Mathlib.Omega.{arith}
 use borrow.Author.Needs.{needs}
 use Rattle.fields.proofs.bits.bit.Statement.{statement}
 use Rattle.fields.proofs.bits.bit.Tie as tie
-use Rattle.fields.proofs.bits.bit.Reads as reads
-use Rattle.fields.proofs.bits.bit.Lts as lts
 
 returns : tie.Need-returns
 unfolding bitAt

@@ -7,9 +7,6 @@ use native.Mathlib.Omega.{arith}
 use borrow.Author.Needs.{needs}
 use Rattle.fields.proofs.bits.put_bit.Statement.{statement}
 use Rattle.fields.proofs.bits.put_bit.Tie as tie
-use Rattle.fields.proofs.bits.put_bit.Reads as reads
-use Rattle.fields.proofs.bits.put_bit.Lts as lts
-use Rattle.fields.proofs.bits.with_bit.Reads as with-bit-reads
 
 slice-read-x : tie.Need-slice-read-x
 slice-read-x c = search needs

@@ -5,8 +5,6 @@ use native.Mathlib.Omega.{arith}
 use borrow.Author.Needs.{needs}
 use Rattle.fields.proofs.bits.weight.Statement.{statement}
 use Rattle.fields.proofs.bits.weight.Tie as tie
-use Rattle.fields.proofs.bits.weight.Reads as reads
-use Rattle.fields.proofs.bits.weight.Lts as lts
 
 cast-result : tie.Need-cast-result
 cast-result c = search needs

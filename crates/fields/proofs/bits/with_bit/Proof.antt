@@ -8,9 +8,6 @@ use native.Mathlib.Omega.{arith}
 use borrow.Author.Needs.{needs}
 use Rattle.fields.proofs.bits.with_bit.Statement.{statement}
 use Rattle.fields.proofs.bits.with_bit.Tie as tie
-use Rattle.fields.proofs.bits.with_bit.Reads as reads
-use Rattle.fields.proofs.bits.with_bit.Lts as lts
-use Rattle.fields.proofs.bits.weight.Reads as weight-reads
 
 weight-requires : tie.Need-weight-requires
 weight-requires c κs = search needs

@@ -6,9 +6,6 @@ use Rattle.fields.specs.Bits.{fieldAt}
 use Rattle.fields.proofs.FieldLaws.{bit-lt, field-more, field-fits}
 use Rattle.fields.proofs.field.field.Statement.{statement}
 use Rattle.fields.proofs.field.field.Tie as tie
-use Rattle.fields.proofs.field.field.Reads as reads
-use Rattle.fields.proofs.field.field.Lts as lts
-use Rattle.fields.proofs.bits.bit.Reads as bit-reads
 
 abbrev Inv-loop : tie.InvT-loop
 Inv-loop s at w v₀ k₀ v k = (k ≤ w) × (v ≡ fieldAt s at k)

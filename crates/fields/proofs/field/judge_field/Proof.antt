@@ -5,9 +5,6 @@ use Rattle.fields.proofs.JudgingLaws.{cut, spoilt, good, sheet-here, sh
 use borrow.Author.Needs.{needs}
 use Rattle.fields.proofs.field.judge_field.Statement.{statement}
 use Rattle.fields.proofs.field.judge_field.Tie as tie
-use Rattle.fields.proofs.field.judge_field.Reads as reads
-use Rattle.fields.proofs.field.judge_field.Lts as lts
-use Rattle.fields.proofs.field.field.Reads as field-reads
 
 add-if1 : tie.Need-add-if1
 add-if1 c = search needs

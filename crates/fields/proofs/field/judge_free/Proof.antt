@@ -6,8 +6,6 @@ use Rattle.fields.proofs.JudgingLaws.{cut, good, sheet-here, sheet-cut}
 use borrow.Author.Needs.{needs}
 use Rattle.fields.proofs.field.judge_free.Statement.{statement}
 use Rattle.fields.proofs.field.judge_free.Tie as tie
-use Rattle.fields.proofs.field.judge_free.Reads as reads
-use Rattle.fields.proofs.field.judge_free.Lts as lts
 
 add-if1 : tie.Need-add-if1
 add-if1 c = search needs

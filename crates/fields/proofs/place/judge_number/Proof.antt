@@ -4,8 +4,6 @@ use Rattle.fields.specs.Judging.{given, outside}
 use Rattle.fields.proofs.JudgingLaws.{spoilt, good, below-low, above-high, inside}
 use Rattle.fields.proofs.place.judge_number.Statement.{statement}
 use Rattle.fields.proofs.place.judge_number.Tie as tie
-use Rattle.fields.proofs.place.judge_number.Reads as reads
-use Rattle.fields.proofs.place.judge_number.Lts as lts
 
 returns : tie.Need-returns
 returns c =

@@ -5,8 +5,6 @@ use Rattle.fields.specs.Judging.{inTable}
 use Rattle.fields.proofs.JudgingLaws.{cut, good, place-here, place-cut}
 use Rattle.fields.proofs.place.judge_wide_place.Statement.{statement}
 use Rattle.fields.proofs.place.judge_wide_place.Tie as tie
-use Rattle.fields.proofs.place.judge_wide_place.Reads as reads
-use Rattle.fields.proofs.place.judge_wide_place.Lts as lts
 
 returns : tie.Need-returns
 returns c =

@@ -4,8 +4,6 @@ use native.Mathlib.Omega.{arith}
 use borrow.Author.Needs.{needs}
 use Rattle.fields.proofs.place.place.Statement.{statement}
 use Rattle.fields.proofs.place.place.Tie as tie
-use Rattle.fields.proofs.place.place.Reads as reads
-use Rattle.fields.proofs.place.place.Lts as lts
 
 returns : tie.Need-returns
 returns c =

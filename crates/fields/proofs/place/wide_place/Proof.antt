@@ -4,8 +4,6 @@ use native.Mathlib.Omega.{arith}
 use borrow.Author.Needs.{needs}
 use Rattle.fields.proofs.place.wide_place.Statement.{statement}
 use Rattle.fields.proofs.place.wide_place.Tie as tie
-use Rattle.fields.proofs.place.wide_place.Reads as reads
-use Rattle.fields.proofs.place.wide_place.Lts as lts
 
 returns : tie.Need-returns
 returns c =

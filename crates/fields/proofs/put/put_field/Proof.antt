@@ -6,9 +6,6 @@ use Prim.Native.Nat.{_/_, _-_, _^_, _≤_}
 use native.Mathlib.Omega.{arith}
 use Rattle.fields.proofs.put.put_field.Statement.{statement}
 use Rattle.fields.proofs.put.put_field.Tie as tie
-use Rattle.fields.proofs.put.put_field.Reads as reads
-use Rattle.fields.proofs.put.put_field.Lts as lts
-use Rattle.fields.proofs.bits.put_bit.Reads as put-bit-reads
 
 abbrev Inv-loop : tie.InvT-loop
 Inv-loop out₀ at w v k₀ out k = (k ≤ w) × (out ≡ putField at k (v / 2 ^ (w - k)) out₀)

@@ -3,8 +3,6 @@ use Rattle.running.specs.Counts.{rowCount}
 use borrow.Author.Needs.{needs}
 use Rattle.running.proofs.Answer.row_count.Statement.{statement}
 use Rattle.running.proofs.Answer.row_count.Tie as tie
-use Rattle.running.proofs.Answer.row_count.Reads as reads
-use Rattle.running.proofs.Answer.row_count.Lts as lts
 
 enum-known-self : tie.Need-enum-known-self
 enum-known-self c = search needs

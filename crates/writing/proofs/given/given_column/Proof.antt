@@ -3,11 +3,6 @@ use Rattle.sheets.proofs.SheetLaws.{size-bad, start-bad, goal-last}
 use borrow.Author.Needs.{needs}
 use Rattle.writing.proofs.given.given_column.Statement.{statement}
 use Rattle.writing.proofs.given.given_column.Tie as tie
-use Rattle.writing.proofs.given.given_column.Reads as reads
-use Rattle.writing.proofs.given.given_column.Lts as lts
-use Rattle.fields.proofs.place.judge_place.Reads as judge-place-reads
-use Rattle.fields.proofs.place.judge_place_below.Reads as judge-place-below-reads
-use Rattle.fields.proofs.place.place.Reads as place-reads
 
 mul-at : tie.Need-mul-at
 mul-at c = search needs

@@ -8,9 +8,6 @@ use Rattle.fields.proofs.JudgingLaws.{none, pass, hit, end}
 use borrow.Author.Needs.{needs}
 use Rattle.writing.proofs.given.given_columns.Statement.{statement}
 use Rattle.writing.proofs.given.given_columns.Tie as tie
-use Rattle.writing.proofs.given.given_columns.Reads as reads
-use Rattle.writing.proofs.given.given_columns.Lts as lts
-use Rattle.writing.proofs.given.given_column.Reads as given-column-reads
 
 abbrev Inv-loop : tie.InvT-loop
 Inv-loop frame n i₀ i =

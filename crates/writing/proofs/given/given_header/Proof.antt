@@ -2,9 +2,6 @@ use Rattle.sheets.proofs.SheetLaws.{form-bad, columns-bad, steps-last}
 use borrow.Author.Needs.{needs}
 use Rattle.writing.proofs.given.given_header.Statement.{statement}
 use Rattle.writing.proofs.given.given_header.Tie as tie
-use Rattle.writing.proofs.given.given_header.Reads as reads
-use Rattle.writing.proofs.given.given_header.Lts as lts
-use Rattle.fields.proofs.place.judge_number.Reads as judge-number-reads
 
 judge-number-requires : tie.Need-judge-number-requires
 judge-number-requires c κs = search needs

@@ -5,10 +5,6 @@ use Rattle.sheets.proofs.SheetLaws.{need-bad, effect-last}
 use borrow.Author.Needs.{needs}
 use Rattle.writing.proofs.given.given_marks.Statement.{statement}
 use Rattle.writing.proofs.given.given_marks.Tie as tie
-use Rattle.writing.proofs.given.given_marks.Reads as reads
-use Rattle.writing.proofs.given.given_marks.Lts as lts
-use Rattle.fields.proofs.place.judge_place.Reads as judge-place-reads
-use Rattle.fields.proofs.place.place.Reads as place-reads
 
 mul-place : tie.Need-mul-place
 mul-place c = search needs

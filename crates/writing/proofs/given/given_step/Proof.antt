@@ -9,10 +9,6 @@ use Rattle.fields.proofs.JudgingLaws.{none, pass, hit, end}
 use borrow.Author.Needs.{needs}
 use Rattle.writing.proofs.given.given_step.Statement.{statement}
 use Rattle.writing.proofs.given.given_step.Tie as tie
-use Rattle.writing.proofs.given.given_step.Reads as reads
-use Rattle.writing.proofs.given.given_step.Lts as lts
-use Rattle.fields.proofs.place.judge_wide_place.Reads as judge-wide-place-reads
-use Rattle.writing.proofs.given.given_marks.Reads as given-marks-reads
 
 abbrev Inv-loop : tie.InvT-loop
 Inv-loop frame costs marks n j a i₀ i =

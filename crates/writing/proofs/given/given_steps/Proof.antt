@@ -8,9 +8,6 @@ use Rattle.fields.proofs.JudgingLaws.{none, pass, hit, end}
 use borrow.Author.Needs.{needs}
 use Rattle.writing.proofs.given.given_steps.Statement.{statement}
 use Rattle.writing.proofs.given.given_steps.Tie as tie
-use Rattle.writing.proofs.given.given_steps.Reads as reads
-use Rattle.writing.proofs.given.given_steps.Lts as lts
-use Rattle.writing.proofs.given.given_step.Reads as given-step-reads
 
 abbrev Inv-loop : tie.InvT-loop
 Inv-loop frame costs marks n m j₀ j =

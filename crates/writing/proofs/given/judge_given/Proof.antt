@@ -6,11 +6,6 @@ use Rattle.writing.proofs.WritingLaws.{given-header, given-columns, giv
 use borrow.Author.Needs.{needs}
 use Rattle.writing.proofs.given.judge_given.Statement.{statement}
 use Rattle.writing.proofs.given.judge_given.Tie as tie
-use Rattle.writing.proofs.given.judge_given.Reads as reads
-use Rattle.writing.proofs.given.judge_given.Lts as lts
-use Rattle.writing.proofs.given.given_columns.Reads as given-columns-reads
-use Rattle.writing.proofs.given.given_header.Reads as given-header-reads
-use Rattle.writing.proofs.given.given_steps.Reads as given-steps-reads
 
 given-header-requires : tie.Need-given-header-requires
 given-header-requires c κs = search needs

@@ -7,10 +7,6 @@ use Rattle.fields.proofs.PackingLaws.{put-next}
 use borrow.Author.Needs.{needs}
 use Rattle.writing.proofs.put.put_column.Statement.{statement}
 use Rattle.writing.proofs.put.put_column.Tie as tie
-use Rattle.writing.proofs.put.put_column.Reads as reads
-use Rattle.writing.proofs.put.put_column.Lts as lts
-use Rattle.fields.proofs.place.place.Reads as place-reads
-use Rattle.fields.proofs.put.put_field.Reads as put-field-reads
 
 column-bits-requires : tie.Need-column-bits-requires
 column-bits-requires c κs = search needs

@@ -11,9 +11,6 @@ use Rattle.fields.specs.Packing.{packed}
 use borrow.Author.Needs.{needs}
 use Rattle.writing.proofs.put.put_columns.Statement.{statement}
 use Rattle.writing.proofs.put.put_columns.Tie as tie
-use Rattle.writing.proofs.put.put_columns.Reads as reads
-use Rattle.writing.proofs.put.put_columns.Lts as lts
-use Rattle.writing.proofs.put.put_column.Reads as put-column-reads
 
 abbrev Inv-loop : tie.InvT-loop
 Inv-loop out₀ frame n i₀ out i =

@@ -5,9 +5,6 @@ use Rattle.fields.proofs.PackingLaws.{put-next}
 use borrow.Author.Needs.{needs}
 use Rattle.writing.proofs.put.put_header.Statement.{statement}
 use Rattle.writing.proofs.put.put_header.Tie as tie
-use Rattle.writing.proofs.put.put_header.Reads as reads
-use Rattle.writing.proofs.put.put_header.Lts as lts
-use Rattle.fields.proofs.put.put_field.Reads as put-field-reads
 
 put-field-requires : tie.Need-put-field-requires
 put-field-requires c κs = search needs

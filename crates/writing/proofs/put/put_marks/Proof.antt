@@ -9,11 +9,6 @@ use Prim.Native.Nat.{ℕ, _+_, _*_}
 use borrow.Author.Needs.{needs}
 use Rattle.writing.proofs.put.put_marks.Statement.{statement}
 use Rattle.writing.proofs.put.put_marks.Tie as tie
-use Rattle.writing.proofs.put.put_marks.Reads as reads
-use Rattle.writing.proofs.put.put_marks.Lts as lts
-use Rattle.fields.proofs.place.place.Reads as place-reads
-use Rattle.fields.proofs.put.put_field.Reads as put-field-reads
-use Rattle.sheets.proofs.model_bits.Reads as model-bits-reads
 
 model-bits-requires : tie.Need-model-bits-requires
 model-bits-requires c κs = search needs

@@ -3,13 +3,6 @@ use Rattle.writing.proofs.WritingLaws.{parts-put}
 use borrow.Author.Needs.{needs}
 use Rattle.writing.proofs.put.put_sheet.Statement.{statement}
 use Rattle.writing.proofs.put.put_sheet.Tie as tie
-use Rattle.writing.proofs.put.put_sheet.Reads as reads
-use Rattle.writing.proofs.put.put_sheet.Lts as lts
-use Rattle.fields.proofs.put.put_field.Reads as put-field-reads
-use Rattle.sheets.proofs.model_bits.Reads as model-bits-reads
-use Rattle.writing.proofs.put.put_columns.Reads as put-columns-reads
-use Rattle.writing.proofs.put.put_header.Reads as put-header-reads
-use Rattle.writing.proofs.put.put_steps.Reads as put-steps-reads
 
 put-header-requires : tie.Need-put-header-requires
 put-header-requires c κs = search needs

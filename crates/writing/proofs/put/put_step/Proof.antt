@@ -13,12 +13,6 @@ use Rattle.fields.proofs.PackingLaws.{put-next}
 use borrow.Author.Needs.{needs}
 use Rattle.writing.proofs.put.put_step.Statement.{statement}
 use Rattle.writing.proofs.put.put_step.Tie as tie
-use Rattle.writing.proofs.put.put_step.Reads as reads
-use Rattle.writing.proofs.put.put_step.Lts as lts
-use Rattle.fields.proofs.place.wide_place.Reads as wide-place-reads
-use Rattle.fields.proofs.put.put_field.Reads as put-field-reads
-use Rattle.sheets.proofs.model_bits.Reads as model-bits-reads
-use Rattle.writing.proofs.put.put_marks.Reads as put-marks-reads
 
 abbrev Inv-loop : tie.InvT-loop
 Inv-loop out₀ costs marks n j i₀ out i =

@@ -12,9 +12,6 @@ use Rattle.fields.specs.Packing.{packed}
 use borrow.Author.Needs.{needs}
 use Rattle.writing.proofs.put.put_steps.Statement.{statement}
 use Rattle.writing.proofs.put.put_steps.Tie as tie
-use Rattle.writing.proofs.put.put_steps.Reads as reads
-use Rattle.writing.proofs.put.put_steps.Lts as lts
-use Rattle.writing.proofs.put.put_step.Reads as put-step-reads
 
 abbrev Inv-loop : tie.InvT-loop
 Inv-loop out₀ costs marks n m j₀ out j =

@@ -5,10 +5,6 @@ use Rattle.writing.proofs.WritingLaws.{fields-refused, room-refused, pu
 use borrow.Author.Needs.{needs}
 use Rattle.writing.proofs.write.write_model.Statement.{statement}
 use Rattle.writing.proofs.write.write_model.Tie as tie
-use Rattle.writing.proofs.write.write_model.Reads as reads
-use Rattle.writing.proofs.write.write_model.Lts as lts
-use Rattle.writing.proofs.given.judge_given.Reads as judge-given-reads
-use Rattle.writing.proofs.put.put_sheet.Reads as put-sheet-reads
 
 judge-given-requires : tie.Need-judge-given-requires
 judge-given-requires c κs = search needs
