@@ -1,4 +1,6 @@
 // Which blocks a step leads from, in words of 32 blocks.
+#![tactic(auto)]
+
 ghost use Rattle.std.specs.Prelude.{◌≡◌, cond, ◌*◌, ◌^◌, ◌<◌, ◌≤◌, length};
 ghost use Rattle.std.specs.Int.Bits.{bit_and};
 ghost use Rattle.task.specs.Sizes.{limits, goal_row};

@@ -9,7 +9,7 @@ use lib.ListN.{length}
 use borrow.Author.Tests.{ltb-true, lt-ltb}
 use Rattle.task.specs.declared.Column.{Column}
 use Rattle.task.specs.declared.Block.{Block}
-use Rattle.task.specs.Loops.{first, when}
+use Rattle.task.specs.Loops.{when}
 use Rattle.task.specs.Task.{Task, State, Accepted, block, at, column_count, size_of, is_state}
 use Rattle.task.proofs.LoopLaws.{and_left, and_right, and_both, first_some, first_found, when-some}
 use Rattle.task.proofs.TaskLaws.{columns-pass, per-length, per-at, position-below}

@@ -13,7 +13,7 @@ use Rattle.task.specs.declared.Column.{Column}
 use Rattle.task.specs.declared.Block.{Block}
 use Rattle.task.specs.Loops.{tab, over}
 use Rattle.task.specs.declared.Model.{Model}
-use Rattle.task.specs.Task.{Task, column, block, at, column_count, size_of, per_column}
+use Rattle.task.specs.Task.{Task, column, at, column_count, size_of, per_column}
 use Rattle.task.specs.Tables.{task_of}
 use Rattle.task.specs.Sizes.{limits, block_places}
 use Rattle.task.proofs.TaskLaws.{per-length}

@@ -1,6 +1,6 @@
 -- The cuts of a list, made one after another in an array, and following them to the block of a state.
 use mathlib.Core.Path.{◌≡◌, refl, sym, ap, ◌∙◌}
-use mathlib.Core.Logic.{◌⊎◌, ⊎_elim, ◌≢◌}
+use mathlib.Core.Logic.{⊎_elim, ◌≢◌}
 use mathlib.Core.Bool.{Bool, true, false, cond}
 use mathlib.Core.List.{List, [], ◌∷◌, ◌++◌}
 use mathlib.Core.Option.{some}
@@ -14,7 +14,6 @@ use borrow.Author.Tests.{eq-eqb, ne_eqb}
 use Rattle.task.specs.declared.Block.{Block}
 use Rattle.task.specs.Loops.{tab}
 use Rattle.task.specs.Task.{Task, State, Accepted, block, position, at, column_count, is_state}
-use Rattle.task.specs.Sizes.{limits, block_places}
 use Rattle.task.proofs.LoopLaws.{and_left, and_right, tab-length, below_suc}
 use Rattle.blocks.specs.declared.Cut.{Cut}
 use Rattle.blocks.specs.Blocks.{Blocks, block_at, cut_block, in_block, whole, cut_ok, cuts_ok, cut_all, accepted, blocks_of, block_of}

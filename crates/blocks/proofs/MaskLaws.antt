@@ -1,6 +1,6 @@
 -- The sets that stand for needs, landings and goals say what the marks say, and the tests on them are those of 01.
 use mathlib.Core.Path.{◌≡◌, refl, sym, ap, ap₂, ◌∙◌, fun_ext}
-use mathlib.Core.Logic.{◌⊎◌, inl, ⊎_elim, ◌≢◌}
+use mathlib.Core.Logic.{inl, ⊎_elim, ◌≢◌}
 use mathlib.Core.Bool.{true, false, ◌&&◌, and-true}
 use mathlib.Core.List.{List}
 use mathlib.Core.Option.{Option, none, some}

@@ -1,5 +1,5 @@
 -- Needs, landings and goals as sets of positions, and the tests of 01 on such sets.
-use Rattle.std.specs.Prelude.{Bool, ◌&&◌, not, cond, List, ◌≡◌, ℕ, ◌-◌, ◌*◌, ◌≤◌, ◌<◌, eqb, ltb, get_or, drop}
+use Rattle.std.specs.Prelude.{Bool, ◌&&◌, not, cond, List, ◌≡◌, ℕ, ◌-◌, ◌≤◌, ◌<◌, eqb, ltb, get_or, drop}
 use Rattle.std.proofs.Math.Option.{Option, none, some}
 use Rattle.task.specs.declared.Column.{Column}
 use Rattle.task.specs.declared.Position.{Position}

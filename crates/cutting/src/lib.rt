@@ -1,4 +1,6 @@
 // Blocks in one flat array of sets: block 0, the cuts that part blocks, and the block of a state.
+#![tactic(auto)]
+
 ghost use Rattle.std.specs.Prelude.{◌≡◌, true, ℕ, ◌+◌, ◌*◌, ◌<◌, ◌≤◌, length, get_or, take};
 ghost use Rattle.std.proofs.Math.Option.{some};
 ghost use Rattle.task.specs.Loops.{over};

@@ -1,4 +1,6 @@
 // Sets of positions as masks: the tables of a model, and the tests of a step and of the goal on the sets of blocks.
+#![tactic(auto)]
+
 ghost use Rattle.std.specs.Prelude.{◌≡◌, ◌+◌, ◌*◌, ◌<◌, ◌≤◌, length};
 ghost use Rattle.task.specs.Sizes.{limits, step_places, table_places, lands_row, goal_row, start_row};
 ghost use Rattle.task.specs.Task.{Accepted};

@@ -1,4 +1,6 @@
 // The task of 01: its four kinds of number, the model, and what a step does to a state.
+#![tactic(auto)]
+
 ghost use Rattle.std.specs.Prelude.{◌≡◌, ℕ, ◌≤◌, ◌<◌, get_or, take};
 ghost use Rattle.task.specs.Loops.{over};
 ghost use Rattle.task.specs.Sizes.{limits, most_cost};
@@ -6,26 +8,26 @@ ghost use Rattle.task.specs.Task.{step, meets, changed, can_take, taken, is_goal
 ghost use Rattle.task.specs.Tables.{marked, task_of, WithinLimits};
 
 // A column, by its number.
-#[derive(Drop)]
+#[derive(Clone, Copy)]
 pub struct Column(pub u8);
 
 // A position of a column, by its number.
-#[derive(Drop)]
+#[derive(Clone, Copy)]
 pub struct Position(pub u8);
 
 // A step, by its number.
-#[derive(Drop)]
+#[derive(Clone, Copy)]
 pub struct Step(pub u8);
 
 // A block, by its number.
-#[derive(Drop)]
+#[derive(Clone, Copy)]
 pub struct Block(pub u16);
 
 // A position or none, as on a sheet: 0 is none, anything else the position plus 1.
-#[derive(Drop)]
+#[derive(Clone, Copy)]
 pub struct Mark(pub u8);
 
-#[derive(Drop)]
+#[derive(Clone, Copy)]
 pub struct Limits {
     pub columns: usize,
     pub positions: usize,
@@ -36,7 +38,7 @@ pub struct Limits {
     pub no_way: u32,
 }
 
-#[derive(Drop)]
+#[derive(Clone, Copy)]
 pub struct Model {
     pub columns: usize,
     pub steps: usize,
@@ -49,7 +51,7 @@ pub struct Model {
 }
 
 // How many columns and steps a model has.
-#[derive(Drop)]
+#[derive(Clone, Copy)]
 pub struct Shape {
     pub columns: usize,
     pub steps: usize,

@@ -1,4 +1,6 @@
 // Values in lists of bytes, as the historian has them: four bytes each, most significant first.
+#![tactic(auto)]
+
 ghost use Rattle.std.specs.Prelude.{◌≡◌, map, ◌+◌, ◌*◌, ◌≤◌, ◌<◌, length};
 ghost use Rattle.task.specs.Loops.{tab, over};
 ghost use Rattle.fields.specs.Judging.{each};

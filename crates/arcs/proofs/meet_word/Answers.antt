@@ -1,0 +1,22 @@
+use mathlib.Core.Path.{refl}
+use Prim.Native.Nat.{◌-◌}
+use native.Mathlib.Omega.{arith}
+use Rattle.arcs.specs.Words.{meets_in}
+use Rattle.arcs.proofs.WordLaws.{begun-none, begun_more, begun-room, begun-end}
+use Rattle.blocks.specs.Flat.{past}
+use Rattle.blocks.specs.Blocks.{common, is_empty}
+use Rattle.arcs.proofs.meet_word.Goals as goal
+
+pub loop-i-init : goal.loop-i-init
+loop-i-init c = begun-none _ _
+
+pub overflow_add-v : goal.overflow_add-v
+unfolding meets_in past common is_empty
+overflow_add-v c = omega (arith, begun-room _ _ c.loop-i.invariant (omega arith) refl c.bit_if-v.ensures)
+
+pub loop-i-preserved : goal.loop-i-preserved
+unfolding meets_in past common is_empty
+loop-i-preserved c = begun_more _ _ c.loop-i.invariant (omega arith) refl c.bit_if-v.ensures
+
+pub returns : goal.returns
+returns c = begun-end _ _ c.loop-i.invariant (omega arith)

@@ -1,0 +1,31 @@
+use Rattle.task.proofs.TableLaws.{costs-more, cost-of}
+use Rattle.task.proofs.LoopLaws.{length-mapped}
+use Rattle.task.specs.Tables.{task_of}
+use Rattle.task.specs.Task.{costs}
+use Rattle.task.specs.Sizes.{most_steps}
+use lib.ListN.{length}
+use native.Mathlib.Omega.{arith}
+use mathlib.Core.Path.{◌≡◌}
+use borrow.Author.Rules.{rules}
+use Rattle.task.proofs.Model.cost_of.Goals as goal
+
+pub loop-i-init : goal.loop-i-init
+unfolding costs
+loop-i-init c = search rules
+
+pub bounds-self-at : goal.bounds-self-at
+bounds-self-at c = omega (arith, c.requires.1.1 c.loop-i.i c.loop-i-test.true, c.requires.0.steps)
+
+pub loop-i-preserved : goal.loop-i-preserved
+loop-i-preserved c =
+    let g = c.args in
+    let i = c.loop-i.i in
+    let l : length g.list ≡ most_steps = search (length-mapped, rules) in
+    let k = cost-of g.self _ (c.requires.1.1 i c.loop-i-test.true) in
+    (search rules, omega (arith, costs-more (task_of g.self) g.list i (omega arith), k))
+
+pub returns : goal.returns
+returns c =
+    let g = c.args in
+    let e : c.loop-i.i ≡ g.count = omega arith in
+    rw e at c.loop-i.invariant.1
