@@ -1,5 +1,7 @@
 // Going along a log from the start: which row stops it, and the estimate before each row and after the last. The state stands as a row of masks, so that no
 // step copies the model.
+#![tactic(auto)]
+
 ghost use Rattle.std.specs.Prelude.{◌≡◌, ◌&&◌, not, eqb, ℕ, ◌+◌, ◌*◌, ◌/◌, ◌<◌, ◌≤◌, length, get_or};
 ghost use Rattle.task.specs.Loops.{tab, over};
 ghost use Rattle.task.specs.Sizes.{limits};

@@ -1,10 +1,10 @@
 -- Masks of tests, words of blocks, and tables of them.
-use mathlib.Core.Path.{◌≡◌, refl, sym, ◌∙◌, ap, ap₂}
+use mathlib.Core.Path.{◌≡◌, refl, sym, subst, ◌∙◌, ap, ap₂}
 use mathlib.Core.Logic.{◌⊎◌, inl, inr, ⊎_elim, ◌≢◌}
 use mathlib.Core.Bool.{Bool, true, false, not, cond, ◌&&◌, and-false}
 use mathlib.Core.List.{List}
 use Prim.Native.Nat.{ℕ, zero, suc, ◌+◌, ◌-◌, ◌*◌, ◌/◌, ◌%◌, ◌^◌, ◌<◌, ◌≤◌}
-use native.Mathlib.Nat.{two-pow-succ, not-suc-le-zero}
+use native.Mathlib.Nat.{two-pow-succ, not-suc-le-zero, zero-add}
 use native.Mathlib.Numerals.{add-one}
 use native.Mathlib.Decide.{dec_lt}
 use native.Mathlib.Omega.{arith}
@@ -85,11 +85,15 @@ unfolding bits_below
 only_none i zero h = refl
 only_none i (suc k) h = rw (only_none i k (omega arith), ne_eqb k i (λ e. omega arith))
 
+only-this : (k : ℕ) → bits_below (λ c. eqb c k) (suc k) ≡ 2 ^ k
+unfolding bits_below
+only-this k = ap₂ (λ (x y : ℕ). x + y) (only_none k k (omega arith)) (ap (λ (b : Bool). cond b (2 ^ k) 0) (eq-eqb k k refl)) ∙ zero-add (2 ^ k)
+
 only-bit : (i k : ℕ) → i < k → bits_below (λ c. eqb c i) k ≡ 2 ^ i
 unfolding bits_below
 only-bit i zero h = absurd (not-suc-le-zero h)
 only-bit i (suc k) h =
-    ⊎_elim (λ (e : i ≡ k). rw (e, only_none k k (omega arith), eq-eqb k k refl) (omega arith))
+    ⊎_elim (λ (e : i ≡ k). subst (λ (v : ℕ). bits_below (λ c. eqb c v) (suc k) ≡ 2 ^ v) (sym e) (only-this k))
     (λ (l : i < k). rw (only-bit i k l, ne_eqb k i (λ e. omega arith)) (omega arith)) (below_suc h)
 
 one_of : (f : ℕ → Bool) (i k : ℕ) → i < k → bit_and (bits_below f k) (2 ^ i) ≡ bits_below (λ c. f c && eqb c i) k

@@ -1,4 +1,6 @@
 // Asking for the estimates of states: the states judged and read, and one estimate written for each.
+#![tactic(auto)]
+
 ghost use Rattle.std.specs.Prelude.{◌≡◌, cond, ℕ, ◌+◌, ◌*◌, ◌/◌, ◌≤◌, ◌<◌, length, get_or};
 ghost use Rattle.task.specs.Loops.{tab, over};
 ghost use Rattle.task.specs.Sizes.{limits, most_values, tenth};
@@ -21,7 +23,7 @@ use settling::fill_distances;
 use task::{BlockSets, Costs, Distances, Model, Position, Shape, State, Tables};
 
 // How many estimates were written, or a refusal.
-#[derive(Drop)]
+#[derive(Clone, Copy)]
 pub enum Asked {
     Estimates(usize),
     Refused(u8),

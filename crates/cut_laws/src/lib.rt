@@ -1,1 +1,2 @@
 // What holds of cut sheets as a whole: no function stands here.
+#![tactic(auto)]

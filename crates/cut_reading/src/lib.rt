@@ -1,4 +1,6 @@
 // Reading a cut sheet against a given model sheet, and rebuilding its cuts.
+#![tactic(auto)]
+
 ghost use Rattle.std.specs.Prelude.{◌≡◌, ◌+◌, ◌*◌, ◌≤◌, ◌<◌, length};
 ghost use Rattle.task.specs.Sizes.{limits, block_places};
 ghost use Rattle.fields.specs.Judging.{each};
@@ -14,7 +16,7 @@ use sheets::{judge_part, judge_sheet};
 use task::{BlockSets, Model};
 
 // The number of cuts, or a refusal.
-#[derive(Drop)]
+#[derive(Clone, Copy)]
 pub enum CutsRebuilt {
     Cuts(usize),
     Refused(u8),

@@ -1,5 +1,7 @@
 // The cut sheet: a whole model sheet, and from the next byte the cut part. It is judged in one pass, in sheet order; the cuts are made in a
 // scratch array as they are judged, since each is judged by the blocks that those before it made.
+#![tactic(auto)]
+
 ghost use Rattle.std.specs.Prelude.{◌≡◌, ◌+◌, ◌*◌, ◌≤◌, ◌<◌, length};
 ghost use Rattle.task.specs.Sizes.{limits, block_places};
 ghost use Rattle.task.specs.Task.{Task, column_count};

@@ -1,4 +1,6 @@
 // Writing a cut sheet: the given model sheet, and from the next byte the cut part.
+#![tactic(auto)]
+
 ghost use Rattle.std.specs.Prelude.{◌≡◌, ◌+◌, ◌*◌, ◌≤◌, ◌<◌, length};
 ghost use Rattle.task.specs.Loops.{over};
 ghost use Rattle.task.specs.Sizes.{limits};
@@ -16,7 +18,7 @@ use task::Model;
 use unpack::unpack_model;
 
 // How many bytes were written, or a refusal.
-#[derive(Drop)]
+#[derive(Clone, Copy)]
 pub enum CutsWritten {
     Sheet(usize),
     Refused(u8),

@@ -4,16 +4,16 @@ use mathlib.Core.Path.{◌≡◌, refl, sym, ap, ◌∙◌, subst}
 use mathlib.Core.Bool.{true}
 use mathlib.Core.List.{List, [], ◌∷◌, ◌++◌}
 use mathlib.Core.Option.{Option, none, some, map}
-use Prim.Native.Nat.{ℕ, suc, ◌+◌, ◌*◌, ◌≤◌, ◌<◌}
+use Prim.Native.Nat.{ℕ, suc, ◌+◌, ◌≤◌, ◌<◌}
 use native.Mathlib.Omega.{arith}
 use lib.ListN.{length}
 use Rattle.task.specs.declared.Step.{Step}
 use Rattle.task.specs.declared.Block.{Block}
 use Rattle.task.specs.Sizes.{limits, most_cost, most_tenths}
-use Rattle.task.specs.Task.{Task, State, Tenths, Accepted, block, step_count, cost_of, is_state, is_goal, can_take, taken, reaches, costs}
+use Rattle.task.specs.Task.{Task, State, Tenths, Accepted, step_count, cost_of, is_state, is_goal, can_take, taken, reaches, costs}
 use Rattle.task.proofs.TaskLaws.{taken-state, first_step}
 use Rattle.blocks.specs.declared.Cut.{Cut}
-use Rattle.blocks.specs.Blocks.{Blocks, block_at, leads, cut_block, cut_ok, accepted, blocks_of}
+use Rattle.blocks.specs.Blocks.{Blocks, block_at, cut_block, cut_ok, accepted, blocks_of}
 use Rattle.blocks.proofs.LeadLaws.{in_within, leads-sound, leads-mono, goal-sound, goal-mono}
 use Rattle.blocks.proofs.PartLaws.{Parts, CutFits, Origin, origin, fits, cut_parts}
 use Rattle.blocks.proofs.CutLaws.{BlockIs, block-of, accepted-parts, blocks_more, blocks-length}
@@ -26,6 +26,7 @@ abbrev cost_in : Option Distance → Option Tenths
 cost_in o = map (λ d. d.cost) o
 
 cost-below : (o : Option Distance) {d : Distance} → Below o d → NoMore (cost_in o) (some d.cost)
+cost-below none h = elim h [ ]
 cost-below (some e) (below h) = number h.cost
 
 at-most-then : {a : Option Tenths} {b c : Tenths} → NoMore a (some b) → b ≤ c → NoMore a (some c)
@@ -138,6 +139,7 @@ module _ (t : Task) (v : Accepted t) (cs : List Cut) (ok : accepted t cs ≡ tru
       go (estimate t cs (taken t s x)) (estimate-below ss (taken t s x) (taken-state t v s x h) f.rest) (estimate-consistent x h s f.known f.can)
     where
       go : (o : Option Tenths) → NoMore o (some (costs t ss)) → NoMore (estimate t cs x) (map (λ e. cost_of t s + e) o) → NoMore (estimate t cs x) (some (cost_of t s + costs t ss))
+      go none k n = elim k [ ]
       go (some e) (number k) n = at-most-then n (omega arith)
 
   -- from cut to cut no state's estimate falls, "no way" ranking above every number

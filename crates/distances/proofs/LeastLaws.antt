@@ -14,7 +14,7 @@ use Rattle.task.specs.declared.Block.{Block}
 use Rattle.task.specs.Task.{Task, step, block, step_count, cost_of}
 use Rattle.task.proofs.LoopLaws.{and_left, and_right, and_both, tab-at}
 use Rattle.blocks.specs.Blocks.{Blocks, block_at, goal_block}
-use Rattle.distances.specs.Distances.{Distance, Hop, Table, AtMost, DistanceIs, leads_to, is_path, far, far_of, plus, zero_far, least, onward, better, round, rounds, distances}
+use Rattle.distances.specs.Distances.{Distance, Hop, Table, AtMost, DistanceIs, leads_to, is_path, far, far_of, plus, zero_far, onward, better, round, rounds, distances}
 use Rattle.distances.proofs.OrderLaws.{Below, below, weaken, of-below, not-below, at-most-refl, at-most-trans, zero_at_most, plus-mono, plus-more, least-below, least-found, via-below, via-some}
 use Rattle.distances.proofs.PigeonLaws.{In, here, there, Different, in-or-not, pigeon}
 
@@ -127,7 +127,9 @@ module _ (t : Task) (bs : Blocks) where
   -- what is left of a path from a block that it meets
   suffix : (hs : List Hop) (a b : Block) → is_path t bs b hs ≡ true → Different (b.0 ∷ tos hs) → In a.0 (b.0 ∷ tos hs) → Simple a (far t hs)
   unfolding far
-  suffix hs a b w d (here e) = let z : a ≡ b = ap block e in (hs, rw z w, rw z d, at-most-refl (far t hs))
+  suffix [] a b w d (here e) = let z : a ≡ b = ap block e in ([], rw z w, rw z d, at-most-refl (far t []))
+  suffix [] a b w d (there i) = elim i [ ]
+  suffix (h ∷ hs) a b w d (here e) = let z : a ≡ b = ap block e in (h ∷ hs, rw z w, rw z d, at-most-refl (far t (h ∷ hs)))
   suffix (h ∷ hs) a b w d (there i) =
       let r = suffix hs a h.to (first_of b h hs w).rest d.1 i in
       (r.0, r.1, r.2, at-most-trans r.3 (plus-more (cost_of t h.step) (far t hs)))
@@ -151,7 +153,9 @@ module _ (t : Task) (bs : Blocks) where
       (in-or-not a.0 (h.to.0 ∷ tos r.0))
 
   tos-below : (hs : List Hop) (a : Block) → a.0 < length bs → is_path t bs a hs ≡ true → (x : ℕ) → In x (a.0 ∷ tos hs) → x < length bs
-  tos-below hs a h w x (here e) = rw e h
+  tos-below [] a h w x (here e) = rw e h
+  tos-below [] a h w x (there i) = elim i [ ]
+  tos-below (k ∷ hs) a h w x (here e) = rw e h
   tos-below (k ∷ hs) a h w x (there i) = let f = first_of a k hs w in tos-below hs k.to f.made f.rest x i
 
   -- as many rounds as there are blocks are enough

@@ -83,6 +83,7 @@ nearer-false d e h =
 
 pick-left : (x y : Option Distance) {e : Distance} → Below x e → Below (pick x y) e
 unfolding pick
+pick-left none y h = elim h [ ]
 pick-left (some d) none h = h
 pick-left (some d) (some c) {e} (below h) =
     ⊎_elim (λ (n : nearer c d ≡ true). rw n (below (at-most-trans (nearer-true c d n) h))) (λ (n : nearer c d ≡ false). rw n (below h)) (true-or-false (nearer c d))
@@ -90,6 +91,7 @@ pick-left (some d) (some c) {e} (below h) =
 pick-right : (x y : Option Distance) {e : Distance} → Below y e → Below (pick x y) e
 unfolding pick
 pick-right none y h = h
+pick-right (some d) none h = elim h [ ]
 pick-right (some d) (some c) {e} (below h) =
     ⊎_elim (λ (n : nearer c d ≡ true). rw n (below h)) (λ (n : nearer c d ≡ false). rw n (below (at-most-trans (nearer-false c d n) h))) (true-or-false (nearer c d))
 
@@ -115,6 +117,7 @@ least-found (suc n) f e =
 
 pub via-below : (w : ℕ) (x : Option Distance) {e : Distance} → Below x e → Below (via true w x) (plus w e)
 unfolding via
+via-below w none h = elim h [ ]
 via-below w (some d) (below h) = below (plus-mono w h)
 
 pub via-some : (b : Bool) (w : ℕ) (x : Option Distance) {d : Distance} → via b w x ≡ some d → (b ≡ true) × ((e : Distance) × (x ≡ some e) × (plus w e ≡ d))

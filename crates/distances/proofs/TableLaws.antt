@@ -1,7 +1,7 @@
 -- Tables that are the distances: for code that works them out in another order than the rounds. A block has one distance, and a table that
 -- one more round leaves as it is holds the distances.
 use mathlib.Core.Path.{◌≡◌, refl, sym, ap, ◌∙◌, subst}
-use mathlib.Core.Logic.{◌⊎◌, ⊎_elim}
+use mathlib.Core.Logic.{⊎_elim}
 use mathlib.Core.Bool.{true}
 use mathlib.Core.List.{List}
 use mathlib.Core.Option.{Option, none, some}

@@ -1,4 +1,6 @@
 // The figures of a replay: for each row the tenths paid, the ground won and the detour, from the estimates along the log.
+#![tactic(auto)]
+
 ghost use Rattle.std.specs.Prelude.{◌≡◌, ℕ, ◌+◌, ◌*◌, ◌≤◌, ◌<◌, length, get_or};
 ghost use Rattle.task.specs.Sizes.{limits, most_cost};
 ghost use Rattle.fields.specs.Judging.{each};

@@ -1,4 +1,6 @@
 // What a run, a question and a replay begin with: the model of an accepted sheet in tables, and block 0.
+#![tactic(auto)]
+
 ghost use Rattle.std.specs.Prelude.{◌≡◌, length};
 ghost use Rattle.task.specs.Loops.{over};
 ghost use Rattle.task.specs.Sizes.{block_places, table_places};
@@ -15,7 +17,7 @@ use task::{BlockSets, Costs, Model, Shape, Tables};
 use unpack::unpack_accepted;
 
 // What is left of a model beside its tables.
-#[derive(Drop)]
+#[derive(Clone, Copy)]
 pub struct Frame {
     pub shape: Shape,
     pub sizes: [u8; Model::COLUMNS],

@@ -1,4 +1,6 @@
 // Reading a model sheet into lent tables of plain numbers.
+#![tactic(auto)]
+
 ghost use Rattle.std.specs.Prelude.{◌≡◌, [], ◌∷◌, ◌+◌, ◌*◌, ◌≤◌, ◌<◌, ltb, length};
 ghost use Rattle.task.specs.Sizes.{limits};
 ghost use Rattle.fields.specs.Judging.{check, refusal, each};
@@ -11,7 +13,7 @@ use fields::field::field;
 use sheets::{column_bits, judge_sheet, model_bits};
 
 // The numbers of columns and steps, or a refusal.
-#[derive(Drop)]
+#[derive(Clone, Copy)]
 pub enum ModelRead {
     Held(usize, usize),
     Refused(u8),

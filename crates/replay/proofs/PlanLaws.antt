@@ -4,7 +4,7 @@ use native.Mathlib.Omega.{arith}
 use mathlib.Core.Path.{◌≡◌, sym, ap, ◌∙◌}
 use mathlib.Core.Bool.{true, false, not}
 use mathlib.Core.List.{List, [], ◌∷◌, map}
-use mathlib.Core.Option.{Option, some, get_or}
+use mathlib.Core.Option.{none, Option, some, get_or}
 use lib.IntN.{ℤ, pos, ◌+ℤ◌, ◌-ℤ◌, +ℤ_idr, +ℤ_invr}
 use lib.ListN.{length, drop, drop_of_length-le}
 use lib.Seq.{drop-cons}
@@ -24,6 +24,7 @@ use Rattle.replay.proofs.LogLaws.{before-state, good-all, good-row, bad-none}
 use Rattle.replay.proofs.RowLaws.{tenths_at, ways-back, detours-add, figure-is}
 
 none_left : (o : Option Tenths) → NoMore o (some 0) → o ≡ some 0
+none_left none x' = elim x' [ ]
 none_left (some a) (number h) = let e : a ≡ 0 = omega arith in ap some e
 
 -- the steps of a log

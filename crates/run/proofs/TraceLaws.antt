@@ -87,6 +87,7 @@ module _ (t : Task) (bs : Blocks) where
           near (far_of (distances t bs) h.to) refl (below_all t bs hs h.to f.made f.rest)
         where
           near : (o : Option Distance) → far_of (distances t bs) h.to ≡ o → Below o (far t hs) → Arc t bs (distances t bs) a d
+          near none ek b = elim b [ ]
           near (some k) ek (below b) =
               let f = first_of t bs a h hs w in
               let w : Tenths = cost_of t h.step in

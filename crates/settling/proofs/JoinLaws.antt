@@ -18,7 +18,7 @@ use Rattle.task.specs.Sizes.{limits, most_steps, most_cost, most_tenths, tenth}
 use Rattle.task.specs.Loops.{tab, over}
 use Rattle.task.specs.Task.{Task, Tenths, step, block, cost_of}
 use Rattle.task.proofs.LoopLaws.{tab-length, over-length, over-at}
-use Rattle.blocks.specs.Blocks.{Blocks, leads}
+use Rattle.blocks.specs.Blocks.{Blocks}
 use Rattle.blocks.specs.Flat.{blocks_in}
 use Rattle.blocks.specs.Masks.{Tables}
 use Rattle.blocks.proofs.FlatLaws.{blocks-length}

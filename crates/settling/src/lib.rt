@@ -1,4 +1,6 @@
 // The distances of all blocks worked out: a nearest block is settled after another, each with its least cost and, among those, the least steps.
+#![tactic(auto)]
+
 ghost use Rattle.std.specs.Prelude.{◌≡◌, cond, ℕ, ◌+◌, ◌*◌, ◌<◌, ◌≤◌, length, get_or};
 ghost use Rattle.task.specs.Sizes.{limits, most_cost, tenth};
 ghost use Rattle.task.specs.Task.{Task};

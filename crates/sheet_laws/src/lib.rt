@@ -1,1 +1,2 @@
 // What holds of model sheets, read and written: no function, only laws.
+#![tactic(auto)]

@@ -1,4 +1,6 @@
 // The model sheet: where its fields stand and which refusal it gets. One pass over its fields, in sheet order, with no stores.
+#![tactic(auto)]
+
 ghost use Rattle.std.specs.Prelude.{◌≡◌, ◌≤◌, ◌<◌};
 ghost use Rattle.task.specs.Sizes.{limits};
 ghost use Rattle.fields.specs.Judging.{on_sheet, judged, each};

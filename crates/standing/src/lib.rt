@@ -1,5 +1,7 @@
 // A state of the walk, as an array of masks: in each column the weight of its one position, so that every test is a test of masks. Whether a step can be
 // taken and where it lands, and the cut of a flaw.
+#![tactic(auto)]
+
 ghost use Rattle.std.specs.Prelude.{◌≡◌, ◌+◌, ◌<◌, ◌≤◌, length, drop};
 ghost use Rattle.task.specs.Sizes.{limits, goal_row};
 ghost use Rattle.blocks.specs.Masks.{rows_from, lands_in, goals_in};

@@ -1,13 +1,11 @@
 -- The search for the next hop on numbers finds the one of the definitions.
 use mathlib.Core.Path.{◌≡◌, refl, sym, ◌∙◌, ap, ap₂}
-use mathlib.Core.Logic.{◌⊎◌, ⊎_elim, ◌≢◌}
+use mathlib.Core.Logic.{⊎_elim, ◌≢◌}
 use mathlib.Core.Bool.{Bool, true, false, ◌&&◌, not, cond, and-false}
 use mathlib.Core.List.{List}
 use mathlib.Core.Option.{Option, none, some}
-use Prim.Native.Nat.{ℕ, zero, suc, ◌+◌, ◌-◌, ◌*◌, ◌<◌, ◌≤◌}
-use native.Mathlib.Nat.{not-suc-le-zero}
+use Prim.Native.Nat.{ℕ, suc, ◌+◌, ◌-◌, ◌*◌, ◌<◌, ◌≤◌}
 use native.Mathlib.Omega.{arith}
-use native.Mathlib.Numerals.{add-one}
 use lib.Dec.{eqb, ltb}
 use lib.ListN.{length, get_or}
 use borrow.Author.Tests.{eq-eqb, ne_eqb, ltb-true, ltb-false, not-true}
@@ -17,7 +15,7 @@ use Rattle.task.specs.declared.Shape.{Shape}
 use Rattle.task.specs.Loops.{first, when}
 use Rattle.task.specs.Task.{Task, Accepted, step, block, cost_of}
 use Rattle.task.specs.Sizes.{limits, most_steps, most_cost, most_tenths, tenth}
-use Rattle.task.proofs.LoopLaws.{and_left, true-or-false, below_suc, all-false, all-fails, first_some, when-some, first-empty, first-ext, first-here}
+use Rattle.task.proofs.LoopLaws.{and_left, true-or-false, all-false, all-fails, first_some, when-some, first-empty, first-ext, first-here}
 use Rattle.blocks.specs.Blocks.{Blocks}
 use Rattle.blocks.specs.Flat.{blocks_in}
 use Rattle.blocks.specs.Masks.{all_lie, passes, leads_by, Tables, TablesOf, lands_in, goals_in}

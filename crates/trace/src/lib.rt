@@ -1,4 +1,6 @@
 // The trace, hop by hop: the next hop of a block, found on the numbers of the distances.
+#![tactic(auto)]
+
 ghost use Rattle.std.specs.Prelude.{◌≡◌, cond, ◌&&◌, ℕ, ◌+◌, ◌-◌, ◌*◌, ◌<◌, ◌≤◌, eqb, get_or};
 ghost use Rattle.task.specs.Sizes.{limits, tenth};
 ghost use Rattle.task.specs.Task.{Task, Accepted};
@@ -12,7 +14,7 @@ use settling::weigh;
 use task::{Block, BlockSets, Costs, Distances, Shape, Step, Tables};
 
 // The next hop of a trace: a step, and the block that it leads to.
-#[derive(Drop)]
+#[derive(Clone, Copy)]
 pub enum Next {
     To(Step, Block),
     Nothing,

@@ -1,4 +1,6 @@
 // The model that a sheet holds, in the task's own tables.
+#![tactic(auto)]
+
 ghost use Rattle.std.specs.Prelude.{◌≡◌, ◌+◌, ◌*◌, ◌≤◌, ◌<◌};
 ghost use Rattle.task.specs.Sizes.{limits, step_places};
 ghost use Rattle.task.specs.Loops.{tab, over};
@@ -13,7 +15,7 @@ use sheets::{column_bits, judge_sheet, model_bits};
 use task::{Mark, Model, Position};
 
 // A refusal with the model of nothing, or 0 and the model.
-#[derive(Drop)]
+#[derive(Clone, Copy)]
 pub struct Read {
     pub code: u8,
     pub model: Model,

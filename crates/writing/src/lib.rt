@@ -1,4 +1,6 @@
 // Writing a model sheet from lent tables of plain numbers.
+#![tactic(auto)]
+
 mod given;
 mod put;
 pub mod write;

@@ -6,7 +6,7 @@ use crate::put::put_sheet;
 use sheets::model_bytes;
 
 // The number of bytes written, or a refusal.
-#[derive(Drop)]
+#[derive(Clone, Copy)]
 pub enum SheetWritten {
     Sheet(usize),
     Refused(u8),

@@ -1,5 +1,4 @@
 use mathlib.Core.Path.{◌≡◌}
-use Prim.Native.Nat.{◌-◌}
 use native.Mathlib.Omega.{arith}
 use Rattle.blocks.specs.Flat.{past}
 use Rattle.arcs.proofs.WordLaws.{fits-none, fits_more}

@@ -1,5 +1,4 @@
 use mathlib.Core.Path.{◌≡◌}
-use Prim.Native.Nat.{◌-◌}
 use native.Mathlib.Omega.{arith}
 use Rattle.arcs.proofs.WordLaws.{able-none, able-more}
 use Rattle.arcs.proofs.fill_able.Goals as goal

@@ -1,5 +1,5 @@
 use mathlib.Core.Path.{refl, ◌∙◌}
-use Prim.Native.Nat.{◌-◌, ◌+◌, ◌*◌}
+use Prim.Native.Nat.{◌+◌, ◌*◌}
 use native.Mathlib.Omega.{arith}
 use lib.ListN.{length-set}
 use lib.Seq.{get_or-set_other}
@@ -23,4 +23,4 @@ loop-w-preserved c =
     )
 
 pub returns : goal.returns
-returns c = let l = c.loop-w in (record { each = λ x h. l.invariant.2 x (omega arith); before = l.invariant.3; after = l.invariant.4 }, l.invariant.1)
+returns c = let l = c.loop-w in record { fact_1 = record { each = λ x h. l.invariant.2 x (omega arith); before = l.invariant.3; after = l.invariant.4 }; fact_2 = l.invariant.1 }

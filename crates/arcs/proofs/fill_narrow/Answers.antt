@@ -1,5 +1,4 @@
 use mathlib.Core.Path.{◌≡◌}
-use Prim.Native.Nat.{◌-◌}
 use native.Mathlib.Omega.{arith}
 use lib.ListN.{length-set}
 use Rattle.arcs.proofs.WordLaws.{narrow-none, narrow-more}
@@ -24,4 +23,4 @@ pub returns : goal.returns
 returns c =
     let l = c.loop-j in
     let e : l.j ≡ c.args.columns = omega arith in
-    (rw e at l.invariant.2, l.invariant.1)
+    record { fact_1 = rw e at l.invariant.2; fact_2 = l.invariant.1 }

@@ -1,4 +1,3 @@
-use Prim.Native.Nat.{◌-◌}
 use native.Mathlib.Omega.{arith}
 use lib.ListN.{length-set}
 use borrow.Author.Count.{below_none}
@@ -14,4 +13,4 @@ loop-w-preserved c =
     (omega arith, simp length-set l.invariant.1, filled-first _ l.w _ l.left l.invariant.2 (omega arith) c.open_word.ensures)
 
 pub returns : goal.returns
-returns c = (record { each = λ x h. c.loop-w.invariant.2 x (omega arith) }, c.loop-w.invariant.1)
+returns c = record { fact_1 = record { each = λ x h. c.loop-w.invariant.2 x (omega arith) }; fact_2 = c.loop-w.invariant.1 }

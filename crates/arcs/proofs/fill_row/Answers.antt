@@ -1,5 +1,5 @@
 use mathlib.Core.Path.{refl, ◌∙◌}
-use Prim.Native.Nat.{◌-◌, ◌+◌, ◌*◌}
+use Prim.Native.Nat.{◌+◌, ◌*◌}
 use native.Mathlib.Omega.{arith}
 use lib.ListN.{length-set}
 use lib.Seq.{get_or-set_other}
@@ -26,4 +26,4 @@ loop-s-preserved c =
     )
 
 pub returns : goal.returns
-returns c = let l = c.loop-s in (record { each = λ x h. l.invariant.2 x (omega arith); before = l.invariant.3 }, l.invariant.1)
+returns c = let l = c.loop-s in record { fact_1 = record { each = λ x h. l.invariant.2 x (omega arith); before = l.invariant.3 }; fact_2 = l.invariant.1 }

@@ -1,7 +1,6 @@
 use Rattle.blocks.specs.Flat.{past}
 use Rattle.arcs.proofs.ArcLaws.{kept-none, kept_more, kept-zero}
 use native.Mathlib.Omega.{arith}
-use Prim.Native.Nat.{◌-◌}
 use mathlib.Core.Path.{◌≡◌, sym, ◌∙◌}
 use Rattle.arcs.proofs.kept_word.Goals as goal
 

@@ -1,5 +1,4 @@
 use mathlib.Core.Path.{refl}
-use Prim.Native.Nat.{◌-◌}
 use native.Mathlib.Omega.{arith}
 use Rattle.arcs.specs.Words.{meets_in}
 use Rattle.arcs.proofs.WordLaws.{begun-none, begun_more, begun-room, begun-end}

@@ -1,4 +1,3 @@
-use Prim.Native.Nat.{◌-◌}
 use native.Mathlib.Omega.{arith}
 use Rattle.arcs.specs.Words.{need_in}
 use Rattle.arcs.proofs.WordLaws.{begun-none, begun_more, begun-room, begun-end}

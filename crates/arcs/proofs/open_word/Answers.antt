@@ -1,4 +1,3 @@
-use Prim.Native.Nat.{◌-◌}
 use native.Mathlib.Omega.{arith}
 use Rattle.arcs.proofs.WordLaws.{begun-none, begun_more, begun-room, begun-end}
 use Rattle.arcs.proofs.open_word.Goals as goal

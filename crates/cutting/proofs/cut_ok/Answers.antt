@@ -11,4 +11,4 @@ returns-then-columns-j c = λ t e. let g = c.args in no-column t g.columns g.cou
 
 pub returns : goal.returns
 unfolding past
-returns c = λ t e. let g = c.args in c.May-part.ensures ∙ by_parts t g.columns g.count g.sets.now g.cut e c.if-count-a.false c.if-columns-j.false
+returns c = λ t e. let g = c.args in c.may_part.ensures ∙ by_parts t g.columns g.count g.sets.now g.cut e c.if-count-a.false c.if-columns-j.false

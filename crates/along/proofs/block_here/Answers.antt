@@ -1,0 +1,38 @@
+use native.Mathlib.Omega.{arith}
+use Prim.Native.Nat.{◌-◌}
+use mathlib.Core.Path.{◌≡◌, ◌∙◌}
+use mathlib.Core.Logic.{⊎_elim}
+use Rattle.along.specs.Along.{sends_on}
+use Rattle.along.proofs.TurnLaws.{block_none, block_on, block-stays}
+use borrow.Author.Rules.{rules}
+use Rattle.along.proofs.block_here.Goals as goal
+
+pub loop-i-init : goal.loop-i-init
+loop-i-init c = (omega arith, omega arith, block_none _ _)
+
+pub overflow_cast-column : goal.overflow_cast-column
+overflow_cast-column c = let h = c.requires.columns c.loop-i.i c.loop-i-test.true in search (h, rules)
+
+pub offset_bounds-here-column : goal.offset_bounds-here-column
+offset_bounds-here-column c = let h = c.requires.columns c.loop-i.i c.loop-i-test.true in search (h, rules)
+
+pub bounds-here-column : goal.bounds-here-column
+bounds-here-column c = c.requires.columns c.loop-i.i c.loop-i-test.true
+
+pub loop-i-preserved : goal.loop-i-preserved
+unfolding sends_on
+loop-i-preserved c =
+    let l = c.loop-i in
+    let g = c.args in
+    let t = c.sends_on.ensures in (
+      omega arith,
+      ⊎_elim (λ w. omega (arith, w.1)) (λ w. omega (arith, w.1)) c.if-sends_on.branch,
+      ⊎_elim (λ w. w.1 ∙ block_on g.cuts.now g.here.now l.i l.a _ l.invariant.2 t w.0.taken) (λ w. w.1 ∙ block-stays g.cuts.now g.here.now l.i l.a _ l.invariant.2 t w.0.left) c.if-sends_on.branch,
+    )
+
+pub returns : goal.returns
+returns c =
+    let g = c.args in
+    let l = c.loop-i in
+    let e : l.i ≡ g.count = omega arith in
+    (rw e at l.invariant.2, omega (arith, l.invariant.1, e))
