@@ -12,7 +12,7 @@ use lib.ListN.{length, get_or}
 use borrow.Author.Tests.{lt-ltb, le-ltb, ltb-true, eq-eqb, ne_eqb}
 use Rattle.task.specs.Loops.{when, first}
 use Rattle.task.proofs.LoopLaws.{and_left, first_more, first-here}
-use Rattle.blocks.specs.Blocks.{PositionSet, common, is_empty}
+use Rattle.blocks.specs.Blocks.{common, is_empty}
 use Rattle.standing.specs.Standing.{takes_by, taken_by}
 use Rattle.along.specs.Along.{here_after, goes_by, stop_at, stop_row, sends_on, block_by, cost_by, cost_after}
 

@@ -12,7 +12,11 @@ use Rattle.task.specs.Loops.{all}
 use Rattle.task.specs.Sizes.{limits}
 use Rattle.task.specs.Task.{Task, position, column, column_count, size_of}
 use Rattle.task.proofs.LoopLaws.{all-ext, all_more, all-fails, over-at}
-use Rattle.asking.specs.Question.{bad_states, states_in, place_in, state_in, wide_state}
+use Rattle.asking.specs.Question.{bad_states, states_in, place_in, state_in, wide_state, cost_found}
+
+-- what is found for state k
+abbrev pub cost_at : ℕ → ℕ → List ℕ → List ℕ → List ℕ → ℕ → ℕ
+cost_at columns count cuts dist states k = cost_found dist cuts count (wide_state columns states k)
 
 module _ (sizes : List ℕ) (n : ℕ) (bytes : List ℕ) where
   -- the first k bytes are positions of their columns

@@ -1,7 +1,7 @@
 -- The signed figures of a row: a difference of two numbers that fit is read back as it is, and code's row is the definition's.
 use Prim.Native.Nat.{ℕ, zero, suc, ◌+◌, ◌*◌, ◌-◌, ◌^◌, ◌≤◌, ◌<◌}
 use native.Mathlib.Omega.{arith}
-use mathlib.Core.Path.{◌≡◌, refl, sym, ap, ap₂, ◌∙◌, subst⁻¹}
+use mathlib.Core.Path.{◌≡◌, refl, ap, ap₂, ◌∙◌, subst⁻¹}
 use mathlib.Core.Bool.{Bool, true, false, not, cond}
 use mathlib.Core.List.{List, [], ◌∷◌}
 use mathlib.Core.Option
@@ -65,7 +65,7 @@ module _ (before after : ℕ) where
         difference = is ∙ rw (ne_eqb after limits.no_way way) refl
 
         back : to_z w32 (of_z w32 z) ≡ pos before -ℤ pos after
-        back = rw difference (to_z-of_z (record { sfits = mag-sub before after (2 ^ hbits w32) (omega arith) (omega arith) }))
+        back = rw difference (to_z-of_z {w = w32} (record { sfits = mag-sub before after (2 ^ hbits w32) (omega arith) (omega arith) }))
 
         lost : to_z w32 paid -ℤ to_z w32 (of_z w32 z) ≡ pos paid -ℤ (pos before -ℤ pos after)
         lost = ap₂ (λ (x y : ℤ). x -ℤ y) (to_z_pos w32 (omega arith)) back

@@ -1,4 +1,6 @@
 // The run: look at the blocks, make the cut of the flaw, and look again, until a plan, no plan, or a flaw with the room full.
+#![tactic(auto)]
+
 ghost use Rattle.std.specs.Prelude.{◌≡◌, List, [], ◌+◌, ◌*◌, ◌≤◌, ◌<◌, length};
 ghost use Rattle.task.specs.Sizes.{limits, block_places};
 ghost use Rattle.task.specs.Task.{Task};
@@ -20,7 +22,7 @@ use task::{Block, BlockSets, Costs, Distances, Model, Path, Shape, Tables};
 use walk::{Found, follow};
 
 // What a look at the blocks finds: no way from the start's block, a plan of so many steps, or the start's estimate and the cut of a flaw.
-#[derive(Drop)]
+#[derive(Clone, Copy)]
 pub enum Seen {
     Hopeless,
     Planned(usize),
@@ -28,7 +30,7 @@ pub enum Seen {
 }
 
 // How a run ends: the steps of its plan, or the start's estimate, and the number of blocks.
-#[derive(Drop)]
+#[derive(Clone, Copy)]
 pub enum Ended {
     Plan(usize, usize),
     NoPlan(usize),

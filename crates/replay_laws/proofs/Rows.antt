@@ -8,7 +8,6 @@ use mathlib.Core.Logic.{◌↔◌, ⊎_elim}
 use mathlib.Core.Bool.{true, false, false≢true}
 use mathlib.Core.List.{List}
 use mathlib.Core.Option.{some}
-use lib.Dec.{ltb}
 use lib.IntN.{ℤ, pos, neg_ℤ, nat_abs, ◌-ℤ◌}
 use lib.ListN.{length, get_or, drop}
 use lib.Seq.{drop-append_seam}

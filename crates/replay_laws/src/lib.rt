@@ -1,1 +1,2 @@
 // What holds of a replay as a whole: no function stands here.
+#![tactic(auto)]

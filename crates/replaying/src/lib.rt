@@ -1,4 +1,6 @@
 // The replay of a shift's steps: sheets and log judged, and a row written for each step.
+#![tactic(auto)]
+
 ghost use Rattle.std.specs.Prelude.{◌≡◌, ◌≤◌, length};
 ghost use Rattle.task.specs.Sizes.{limits};
 ghost use Rattle.sheets.specs.Holding.{task_on};

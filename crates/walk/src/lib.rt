@@ -1,4 +1,6 @@
 // The walk of the real states along the trace: a plan, or a flaw and its cut.
+#![tactic(auto)]
+
 ghost use Rattle.std.specs.Prelude.{◌≡◌, List, ◌%◌, ◌<◌, ◌≤◌, length, get_or};
 ghost use Rattle.task.specs.Sizes.{limits, tenth};
 ghost use Rattle.task.specs.Task.{Task, start};
@@ -13,14 +15,14 @@ use task::{Block, BlockSets, ColumnSets, Costs, Distances, Model, Path, Shape, S
 use trace::Next;
 
 // What a walk found: a plan of so many steps of the path, or the cut of a flaw.
-#[derive(Drop)]
+#[derive(Clone, Copy)]
 pub enum Found {
     Plan(usize),
     Flaw(Cut),
 }
 
 // What one hop came to: the state went on by a step to a block, the trace ended before it, or a flaw and its cut.
-#[derive(Drop)]
+#[derive(Clone, Copy)]
 enum Turn {
     Went(Step, Block),
     Ended,

@@ -1,11 +1,10 @@
 use native.Mathlib.Omega.{arith}
-use Prim.Native.Nat.{◌-◌}
 use mathlib.Core.Path.{◌≡◌, ◌∙◌}
-use mathlib.Core.Logic.{⊎_elim}
 use Rattle.along.specs.Along.{sends_on}
 use Rattle.along.proofs.TurnLaws.{block_none, block_on, block-stays}
 use borrow.Author.Rules.{rules}
 use Rattle.along.proofs.block_here.Goals as goal
+use Rattle.along.proofs.block_here.Goals.{then-sends_on, else-sends_on}
 
 pub loop-i-init : goal.loop-i-init
 loop-i-init c = (omega arith, omega arith, block_none _ _)
@@ -26,8 +25,11 @@ loop-i-preserved c =
     let g = c.args in
     let t = c.sends_on.ensures in (
       omega arith,
-      ⊎_elim (λ w. omega (arith, w.1)) (λ w. omega (arith, w.1)) c.if-sends_on.branch,
-      ⊎_elim (λ w. w.1 ∙ block_on g.cuts.now g.here.now l.i l.a _ l.invariant.2 t w.0.taken) (λ w. w.1 ∙ block-stays g.cuts.now g.here.now l.i l.a _ l.invariant.2 t w.0.left) c.if-sends_on.branch,
+      elim c.if-sends_on.branch [ then-sends_on w ↦ omega (arith, w.a-is) | else-sends_on w ↦ omega (arith, w.a-is) ],
+      elim c.if-sends_on.branch [
+        then-sends_on w ↦ w.a-is ∙ block_on g.cuts.now g.here.now l.i l.a _ l.invariant.2 t w.if-sends_on.true
+      | else-sends_on w ↦ w.a-is ∙ block-stays g.cuts.now g.here.now l.i l.a _ l.invariant.2 t w.if-sends_on.false
+      ],
     )
 
 pub returns : goal.returns

@@ -7,18 +7,6 @@ use Rattle.asking.specs.Question.{states_in}
 use borrow.Author.Rules.{rules}
 use Rattle.asking.proofs.answer.Goals as goal
 
-returns : tie.Need-returns
-returns c t q =
-    let measure-at = c.before.before.before.before.before.before.before in
-    let entry = measure-at.before.before.before.before.before.before in
-    let g = entry.args in
-    let m = measure-at.measure.ensures in
-    let h = m.0.1 in
-    answered t q.tabled.own.wide q.tabled.task g.part.now g.sets.now q.fine q.made m.0.0 h (replicate most_values 0)
-    (search (rules, h)) m.1.0
-    (replicate limits.blocks 0) (m.1.1 t q.tabled.own) g.states.now g.estimates.now q.good
-    c.before.before.fill-estimates.ensures
-
 pub fill_estimates-requires : goal.fill_estimates-requires
 unfolding states_in
 fill_estimates-requires c =
@@ -41,3 +29,13 @@ fill_estimates-requires c =
         small = byte_fits t g.states.now q.good v;
       },
     )
+
+pub returns : goal.returns
+returns c t q =
+    let g = c.args in
+    let m = c.measure-count.ensures in
+    let h = m.fact_1.1 in
+    answered t q.tabled.own.wide q.tabled.task g.part.now g.sets.now q.fine q.made m.fact_1.0 h (replicate most_values 0)
+    (search (rules, h)) m.fact_2
+    (replicate limits.blocks 0) (m.fact_3 t q.tabled.own) g.states.now g.estimates.now q.good
+    c.fill_estimates.ensures

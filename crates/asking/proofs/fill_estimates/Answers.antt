@@ -1,15 +1,11 @@
-use Prim.Native.Nat.{ℕ, ◌-◌, ◌/◌}
+use Prim.Native.Nat.{◌/◌}
 use native.Mathlib.Omega.{arith}
 use mathlib.Core.Path.{◌≡◌, refl, sym, ap, ◌∙◌}
-use mathlib.Core.List.{List}
 use lib.ListN.{length, length-set}
 use Rattle.task.proofs.LoopLaws.{over_none, over-more}
-use Rattle.asking.specs.Question.{wide_state, cost_found}
-use Rattle.asking.proofs.StateLaws.{state-room, wide-small}
+use Rattle.asking.specs.Question.{cost_found}
+use Rattle.asking.proofs.StateLaws.{cost_at, state-room, wide-small}
 use Rattle.asking.proofs.fill_estimates.Goals as goal
-
-abbrev cost_at : ℕ → ℕ → List ℕ → List ℕ → List ℕ → ℕ → ℕ
-cost_at columns count cuts dist states k = cost_found dist cuts count (wide_state columns states k)
 
 pub loop-k-init : goal.loop-k-init
 loop-k-init c = (omega arith, refl, sym (over_none _ _))

@@ -2,6 +2,7 @@ use Prim.Native.Nat.{◌-◌, ◌≤◌}
 use mathlib.Core.Path.{◌≡◌}
 use lib.ListN.{length}
 use Rattle.task.specs.Loops.{tab, over}
+use Rattle.asking.proofs.StateLaws.{cost_at}
 use Rattle.asking.proofs.fill_estimates.Given as goal
 
 abbrev pub invariant-loop-k : goal.invariant-loop-k
