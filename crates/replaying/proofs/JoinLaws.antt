@@ -2,19 +2,18 @@
 use Prim.Native.Nat.{ℕ, zero, suc, ◌+◌, ◌*◌, ◌/◌, ◌≤◌, ◌<◌}
 use native.Mathlib.Omega.{arith}
 use mathlib.Core.Path.{◌≡◌, refl, sym, ap, ◌∙◌}
-use mathlib.Core.Bool.{Bool, true, false, not, ◌&&◌, cond}
+use mathlib.Core.Bool.{Bool, true, false, not, ◌&&◌}
 use mathlib.Core.List.{List, []}
 use mathlib.Core.Option
 use mathlib.Core.Option.{Option, none, some}
-use lib.Dec.{eqb, ltb}
+use lib.Dec.{ltb}
 use lib.ListN.{length, get_or}
 use borrow.Author.Tests.{ltb-true, not-false}
-use Rattle.task.specs.declared.Step.{Step}
 use Rattle.task.specs.Loops.{or_else, when, first}
 use Rattle.task.specs.Sizes.{limits, tenth}
-use Rattle.task.specs.Task.{Task, State, Accepted, column, step, at, column_count, step_count, is_state, start, can_take, taken}
+use Rattle.task.specs.Task.{Task, State, Accepted, column, step, column_count, step_count, is_state, start, can_take}
 use Rattle.task.proofs.LoopLaws.{and_left, and_right, first-none, first_some, when-some, when-none, first-empty, or-none}
-use Rattle.blocks.specs.Blocks.{holds, is_empty, common, only, accepted, blocks_of}
+use Rattle.blocks.specs.Blocks.{accepted, blocks_of}
 use Rattle.blocks.specs.Masks.{Told, Stands}
 use Rattle.blocks.specs.Flat.{cut_at, cuts_in, goes_on, followed}
 use Rattle.distances.specs.Distances.{estimate}

@@ -1,34 +1,29 @@
 -- Laws for the code that replays a log: each refusal is the one that the definition gives, and what is left is the rows.
-use Prim.Native.Nat.{ℕ, ◌+◌, ◌*◌, ◌≤◌, ◌<◌}
+use Prim.Native.Nat.{ℕ, ◌*◌, ◌≤◌, ◌<◌}
 use native.Mathlib.Omega.{arith}
 use mathlib.Core.Path.{◌≡◌, refl, sym, ap, ◌∙◌}
-use mathlib.Core.Bool.{Bool, true, false, not, cond}
+use mathlib.Core.Bool.{not, cond}
 use mathlib.Core.List.{List, [], ◌∷◌, ◌++◌}
-use mathlib.Core.Option.{Option}
 use lib.Dec.{eqb, ltb}
-use lib.IntN.{ℤ, pos}
-use lib.ListN.{length, get_or}
+use lib.IntN.{ℤ}
+use lib.ListN.{length}
 use borrow.Author.Tests.{eq-eqb, ne_eqb, lt-ltb, le-ltb, eqb-false, not-true}
-use Rattle.task.specs.Loops.{tab, over}
+use Rattle.task.specs.Loops.{over}
 use Rattle.task.specs.Sizes.{limits}
-use Rattle.task.specs.Task.{Task, Accepted, column_count, is_state}
-use Rattle.task.proofs.LoopLaws.{over-at}
-use Rattle.fields.specs.Judging.{Check, check, refusal, each, ◌then◌}
-use Rattle.fields.specs.Places.{puts}
-use Rattle.fields.proofs.JudgingLaws.{stop, go, applies, passes, no-checks, refusal-append, refused-is, each-ext}
-use Rattle.fields.proofs.PlaceLaws.{each-length, puts-over}
+use Rattle.task.specs.Task.{Task}
+use Rattle.fields.specs.Judging.{Check, check, refusal}
+use Rattle.fields.proofs.JudgingLaws.{stop, go, applies, passes, no-checks, refusal-append, refused-is}
 use Rattle.fields.proofs.ExactLaws.{gives}
 use Rattle.sheets.specs.LentTables.{too_few}
 use Rattle.sheets.specs.Holding.{task_on}
 use Rattle.blocks.specs.declared.Cut.{Cut}
 use Rattle.cut_sheets.specs.CutSheet.{tail_of, cut_sheet_checks, cuts_of}
-use Rattle.cut_sheets.specs.Judged.{Made}
 use Rattle.cut_reading.specs.Rebuilding.{SheetJudged}
 use Rattle.cut_reading.proofs.RebuildLaws.{sheets-ok}
 use Rattle.cut_laws.proofs.Refusals.{sheets_numbers, sheets-numbers}
 use Rattle.replay.specs.declared.Replayed.{Replayed}
 use Rattle.replay.specs.declared.Replayed.TheVariants.{Rows, Stopped, Refused}
-use Rattle.replay.specs.Replay.{bad_row, row_list, log_checks, replay_checks, refused, ReplayOutcome, replay_outcome, replaying, Replays}
+use Rattle.replay.specs.Replay.{bad_row, row_list, log_checks, replay_checks, refused, replay_outcome, replaying, Replays}
 use Rattle.replaying.specs.Replaying.{Sheets, replayed_on}
 
 -- a number other than 14 names no row

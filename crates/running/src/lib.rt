@@ -1,4 +1,6 @@
 // A run as a caller has it: everything judged, the run made, its cuts and rows put into lent lists.
+#![tactic(auto)]
+
 ghost use Rattle.std.specs.Prelude.{◌≡◌, ℕ, ◌*◌, ◌≤◌, ◌<◌, length, get_or};
 ghost use Rattle.task.specs.Loops.{over};
 ghost use Rattle.task.specs.Sizes.{limits};
@@ -17,7 +19,7 @@ use sheets::judge_sheet;
 use task::{Costs, Model, Path, tenths};
 
 // A plan with its cost and its number of steps, no plan, or open with the start's estimate, each with the number of blocks; or a refusal.
-#[derive(Drop)]
+#[derive(Clone, Copy)]
 pub enum Answer {
     Plan {
         cost: u32,

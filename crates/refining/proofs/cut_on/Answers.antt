@@ -1,7 +1,5 @@
 use Rattle.refining.proofs.RefineLaws.{growing-none, growing-more, flaw-cuttable, run-full, run-early, no-flaw}
-use mathlib.Core.Logic.{⊎_elim}
 use native.Mathlib.Omega.{arith}
-use Prim.Native.Nat.{◌-◌}
 use borrow.Author.Rules.{rules}
 use Rattle.refining.proofs.cut_on.Goals as goal
 
@@ -55,7 +53,7 @@ pub returns-in_default : goal.returns-in_default
 returns-in_default c =
     let p = c.requires.fact_1 in
     let e = c.look-seen.ensures in record { fact_1 = run-early p.0 p.1 c.loop-made.invariant _ _ e.fact_1 e.fact_2.0 c.end-in_default.ensures
-          (no-flaw _ _ (λ n d f. let k = rw f at c.in_default.keys2 in ⊎_elim (λ z. absurd (omega arith)) (λ z. absurd (omega arith)) k)); fact_2 = e.fact_2.2 }
+          (no-flaw _ _ (λ n d f. absurd (c.in_default.not-Flaw n d f))); fact_2 = e.fact_2.2 }
 
 pub put_cut-requires : goal.put_cut-requires
 put_cut-requires c =
@@ -68,14 +66,14 @@ pub make_cut-requires : goal.make_cut-requires
 make_cut-requires c =
     let p = c.requires in
     let r = p.fact_3 in
-    flaw-cuttable p.fact_1.0 p.fact_1.1 c.loop-made.invariant _ _ c.look-seen.ensures.fact_1 c.seen-1.given.1 c.if-spare-made.false
+    flaw-cuttable p.fact_1.0 p.fact_1.1 c.loop-made.invariant _ _ c.look-seen.ensures.fact_1 c.in-Flaw.is c.if-spare-made.false
     r.task r.tabled r.parted
 
 pub start_block-from-requires : goal.start_block-from-requires
 start_block-from-requires c =
     let p = c.requires in
     let r = p.fact_3 in
-    let f = flaw-cuttable p.fact_1.0 p.fact_1.1 c.loop-made.invariant _ _ c.look-seen.ensures.fact_1 c.seen-1.given.1 c.if-spare-made.false
+    let f = flaw-cuttable p.fact_1.0 p.fact_1.1 c.loop-made.invariant _ _ c.look-seen.ensures.fact_1 c.in-Flaw.is c.if-spare-made.false
     r.task r.tabled r.parted in
     (omega (arith, f.there, f.wide), f.room)
 
@@ -89,5 +87,5 @@ pub loop-made-preserved : goal.loop-made-preserved
 loop-made-preserved c =
     let p = c.requires.fact_1 in
     let e = c.look-seen.ensures in
-    growing-more p.0 p.1 c.loop-made.invariant _ _ e.fact_1 c.seen-1.given.1 c.if-spare-made.false c.put_cut.ensures
+    growing-more p.0 p.1 c.loop-made.invariant _ _ e.fact_1 c.in-Flaw.is c.if-spare-made.false c.put_cut.ensures
     c.make_cut.ensures c.start_block-from.ensures e.fact_2.1 e.fact_2.2

@@ -4,12 +4,12 @@ use Rattle.refining.proofs.end.Goals as goal
 
 pub returns-in-Hopeless : goal.returns-in-Hopeless
 unfolding end_by
-returns-in-Hopeless c = rw c.enum_told-1.given.1 refl
+returns-in-Hopeless c = rw c.in-Hopeless.is refl
 
 pub returns-in-Planned : goal.returns-in-Planned
 unfolding end_by
-returns-in-Planned c = rw c.seen-1.given.1 refl
+returns-in-Planned c = rw c.in-Planned.is refl
 
 pub returns-in-Flaw : goal.returns-in-Flaw
 unfolding end_by
-returns-in-Flaw c = rw c.seen-in-Flaw-1.given.1 c.left_open.ensures
+returns-in-Flaw c = rw c.in-Flaw.is c.left_open.ensures

@@ -46,11 +46,11 @@ fill_along-requires c =
     let d = m.fact_3 _ p.tabled.own in record { fact_1 = ((within q.fact_1 g.log.now p b).columns, here-long q.fact_1 g.log.now p b, q.fact_2, refl); fact_2 = known_small q.fact_1 g.log.now p b good; fact_3 = cuts-there q.fact_1 g.log.now p b good m.fact_1.0 h (replicate most_values 0) (omega (arith, h)) m.fact_2 (replicate limits.blocks 0) d }
 
 pub slice_bounds-put_rows-end : goal.slice_bounds-put_rows-end
-slice_bounds-put_rows-end c = let o = c.prepare-frame.type-inv in search (rules, o)
+slice_bounds-put_rows-end c = let o = c.prepare-frame.type_inv in search (rules, o)
 
 pub put_rows-requires : goal.put_rows-requires
 put_rows-requires c =
-    let o = c.prepare-frame.type-inv in
+    let o = c.prepare-frame.type_inv in
     let k : length c.prepare-frame.result.costs ≡ limits.steps = search (rules, o) in
     let g = c.args in
     let q = c.requires in
