@@ -1,4 +1,6 @@
 // The run, the question and the replay as the historian calls them, a C program that passes byte lists and numbers. Nothing is asked of the caller.
+#![tactic(auto)]
+
 ghost use Rattle.std.specs.Prelude.{◌≡◌, ◌+◌, ◌-◌, ◌*◌, ◌≤◌, length};
 ghost use Rattle.task.specs.Sizes.{limits, most_values};
 ghost use Rattle.replay.specs.Replay.{row_count, row_named};

@@ -1,4 +1,6 @@
 // The lines that the program prints, put into lent bytes.
+#![tactic(auto)]
+
 ghost use Rattle.std.specs.Prelude.{◌≡◌, ◌+◌, ◌*◌, ◌≤◌, ◌<◌, length};
 ghost use Rattle.task.specs.Sizes.{limits, most_values};
 ghost use Rattle.running.specs.Counts.{Counted};

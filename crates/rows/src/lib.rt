@@ -1,4 +1,6 @@
 // The rows of the change sheet in a lent list of rows: one thin function puts them there from plain numbers, and a run goes through it.
+#![tactic(auto)]
+
 ghost use Rattle.std.specs.Prelude.{◌≡◌, ◌+◌, ◌-◌, ◌*◌, ◌≤◌, ◌<◌, List, length, get_or};
 ghost use Rattle.task.specs.Sizes.{limits, most_values};
 ghost use Rattle.run.specs.declared.Row.{Row};

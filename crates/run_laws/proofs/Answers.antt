@@ -1,7 +1,7 @@
 -- 01, "A run": what a run that is not refused has answered, for whoever knows only its contract. A plan can be carried out, reaches the goal, and
 -- none is cheaper; "no plan" only where none exists; an open run has filled its room, and never has room for every state. Each flaw
 -- met before the room is full brings exactly one cut, blocks are cuts plus one, and from cut to cut no state's estimate falls.
-use Prim.Native.Nat.{ℕ, ◌+◌, ◌-◌, ◌≤◌, ◌<◌}
+use Prim.Native.Nat.{ℕ, ◌+◌, ◌≤◌, ◌<◌}
 use native.Mathlib.Omega.{arith}
 use mathlib.Core.Path.{◌≡◌, refl, sym, ap, ◌∙◌, subst}
 use mathlib.Core.Bool.{true}

@@ -1,1 +1,2 @@
 // What holds of a run as a whole: no function stands here.
+#![tactic(auto)]
