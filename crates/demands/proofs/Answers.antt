@@ -26,7 +26,6 @@ use Rattle.running.specs.declared.Answer.TheVariants.{Plan, NoPlan, Open}
 use Rattle.running.specs.Running.{number, Runs}
 use Rattle.run_laws.proofs.Answers as said
 use Rattle.asking.specs.declared.Asked.TheVariants.{Estimates}
-use Rattle.asking.specs.Question as question
 use Rattle.asking.specs.Question.{state_in, states_in, bad_states, estimate_at, estimates_of, valued, question_checks, Asks}
 use Rattle.question_laws.proofs.Estimates as estimates
 use Rattle.sheets.specs.LentTables.{too_few}

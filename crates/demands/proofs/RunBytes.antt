@@ -2,7 +2,7 @@
 -- For whoever knows only the contract of `elhavir_run`: what a C program takes from the bytes of a run's cuts is the block, the column and the wanted set of
 -- each cut, and from those of a plan's rows the step, the tenths and the tenths left of each. No value is too large for its four bytes. (Of the estimates:
 -- `entry_value` in Answers.)
-use Prim.Native.Nat.{ℕ, zero, suc, ◌+◌, ◌-◌, ◌*◌, ◌/◌, ◌%◌, ◌^◌, ◌≤◌, ◌<◌}
+use Prim.Native.Nat.{ℕ, zero, suc, ◌+◌, ◌*◌, ◌/◌, ◌%◌, ◌^◌, ◌≤◌, ◌<◌}
 use native.Mathlib.Nat.{not-suc-le-zero, le_of_suc-le-suc, add-zero}
 use native.Mathlib.Omega.{arith}
 use native.Mathlib.Decide.{ℕ_discrete}

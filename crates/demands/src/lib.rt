@@ -1,1 +1,2 @@
 // What the customer asks, as theorems: no function stands here.
+#![tactic(auto)]

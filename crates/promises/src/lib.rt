@@ -2,6 +2,8 @@
 // the theorems of `demands` start from: a function whose contract says less is refused here, whatever its own proof says. Both cite one definition, the
 // promise, which stands beside the definition of the function's outcome. Each has a file of its own, so that it can be checked above its function alone.
 // The two functions of `rows`, to which lists of structs are lent, are tied by their contracts: proofs/RowTies.
+#![tactic(auto)]
+
 pub mod of_elhavir_question;
 pub mod of_elhavir_replay;
 pub mod of_elhavir_run;
