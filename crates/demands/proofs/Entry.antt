@@ -24,7 +24,8 @@ use Rattle.sheets.specs.Holding.{task_on}
 use Rattle.sheets.proofs.HeldTaskLaws.{accepted-task}
 use Rattle.run.specs.Run as run
 use Rattle.run.specs.Run.{plan, no_plan, «open», rows, rows_of}
-use Rattle.run.proofs.RunLaws.{Cheapest, NoPlan, Right, run-right}
+use Rattle.run.proofs.RunLaws.{Cheapest, NoPlan, Right}
+use Rattle.run.proofs.RunRightLaws.{run-right}
 use Rattle.run.proofs.LengthLaws.{plan-short}
 use Rattle.blocks.specs.Flat.{cut_place}
 use Rattle.run.specs.Listing.{listed, row_place}
@@ -34,7 +35,8 @@ use Rattle.historian.specs.Entries.{answer_number, entry_checks, RunEntryOutcome
 use Rattle.demands.proofs.Numbers.{kind, blocks, steps, value, Parts, takes-apart}
 use Rattle.demands.proofs.RefusalNumbers.{run-byte}
 use Rattle.demands.proofs.Refusals.{entry-made, entry-refused}
-use Rattle.run_laws.proofs.Flaws.{OnePerFlaw, one-per-flaw}
+use Rattle.run_laws.proofs.Flaws.{OnePerFlaw}
+use Rattle.run_laws.proofs.FlawLaws.{one-per-flaw}
 use Rattle.run_laws.proofs.Answers.{none-falls}
 
 pub costs-few : (t : Task) → ((s : Step) → cost_of t s ≤ most_cost) → (ss : List Step) → costs t ss ≤ length ss * most_cost

@@ -4,7 +4,7 @@
 use Prim.Native.Nat.{ℕ, suc, ◌+◌, ◌-◌, ◌*◌, ◌≤◌, ◌<◌}
 use native.Mathlib.Omega.{arith}
 use native.Mathlib.Decide.{dec_lt, ℕ_discrete}
-use mathlib.Core.Path.{◌≡◌, refl, sym, ap, ◌∙◌, subst}
+use mathlib.Core.Path.{◌≡◌, refl, sym, ap, ◌∙◌}
 use mathlib.Core.List.{List, [], ◌∷◌}
 use lib.Dec.{ltb}
 use lib.ListN.{length, take, drop, length-drop}
@@ -24,7 +24,7 @@ use Rattle.sheets.proofs.RoundLaws.{Same, same-fields, bits-next}
 use Rattle.sheet_laws.proofs.Largest.{largest}
 use Rattle.running.specs.declared.Answer.TheVariants.{Refused}
 use Rattle.running.specs.Running.{room_check}
-use Rattle.lines.specs.Lines.{input_bytes, first_line, printed, Put, Prints}
+use Rattle.lines.specs.Lines.{input_bytes, first_line, printed}
 use Rattle.demands.specs.Files.{room_in, sheet_in, file_checks}
 use Rattle.demands.proofs.Printed.{run_lines, printed-is}
 
@@ -148,7 +148,3 @@ first-bytes-printed b large file = split (dec_lt (length file) (2 + b))
 -- the bytes past the first 4,096 change nothing
 pub printed-reads : (file : List ℕ) → printed (take input_bytes file) ≡ printed file
 printed-reads = first-bytes-printed (input_bytes - 2) (omega arith)
-
--- so what the program prints for the bytes that it has read is what it has to print for the whole input
-pub put-printed-reads : (file out : List ℕ) {r : ℕ} {out' : List ℕ} → Prints (take input_bytes file) out r out' → Prints file out r out'
-put-printed-reads file out {r} {out'} = subst (λ (x : List ℕ). Put 0 x out r out') (printed-reads file)

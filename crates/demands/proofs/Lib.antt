@@ -11,4 +11,6 @@ pub mod Untouched
 pub mod RunBytes
 pub mod Printed
 pub mod FirstBytes
+pub mod ReadBytes
 pub mod Replays
+pub mod ReplayRows

@@ -28,7 +28,8 @@ use Rattle.sheets.specs.Holding.{task_on}
 use Rattle.sheet_laws.proofs.Refusals as sheet
 use Rattle.run.specs.Run as run
 use Rattle.run.specs.Run.{plan, no_plan, «open»}
-use Rattle.run.proofs.RunLaws.{Right, run-right}
+use Rattle.run.proofs.RunLaws.{Right}
+use Rattle.run.proofs.RunRightLaws.{run-right}
 use Rattle.running.specs.declared.Answer.TheVariants.{Refused}
 use Rattle.running.specs.Running.{returned}
 use Rattle.lines.specs.Lines.{output_bytes, width, decimal, labelled, first_line, made_lines, ran_lines, printed, Prints}

@@ -17,7 +17,8 @@ use Rattle.sheets.specs.Holding.{task_on}
 use Rattle.run.specs.declared.Row.{Row}
 use Rattle.run.specs.Run as run
 use Rattle.run.specs.Run.{plan, no_plan, «open», rows, rows_of, block_count}
-use Rattle.run.proofs.RunLaws.{Cheapest, NoPlan as NonePlans, Right, run-right}
+use Rattle.run.proofs.RunLaws.{Cheapest, NoPlan as NonePlans, Right}
+use Rattle.run.proofs.RunRightLaws.{run-right}
 use Rattle.blocks.specs.Flat.{cut_place}
 use Rattle.run.specs.Listing.{listed}
 use Rattle.running.specs.declared.Answer.{Answer}

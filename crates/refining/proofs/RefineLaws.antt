@@ -24,7 +24,7 @@ use Rattle.blocks.proofs.FlatLaws.{cut-in-length}
 use Rattle.blocks.proofs.FollowLaws.{cuts-none, cuts-length, cut-kept, accepted-less}
 use Rattle.run.specs.Run as run
 use Rattle.run.specs.Run.{flaw, look, cut_of, end_of, Outcome, refine}
-use Rattle.run.proofs.RunLaws.{flaw-accepted}
+use Rattle.run.proofs.RunRightLaws.{flaw-accepted}
 use Rattle.refining.specs.declared.Seen.TheVariants.{Hopeless, Planned, Flaw}
 use Rattle.refining.specs.declared.Seen as code
 use Rattle.refining.specs.declared.Ended.{Ended}

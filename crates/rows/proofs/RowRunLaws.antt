@@ -21,7 +21,8 @@ use Rattle.run.specs.declared.Row.{Row}
 use Rattle.run.specs.Run as run
 use Rattle.run.specs.Run.{plan, no_plan, «open», rows, rows_of, block_count}
 use Rattle.blocks.specs.declared.Cut.{Cut}
-use Rattle.run.proofs.RunLaws.{Right, run-right}
+use Rattle.run.proofs.RunLaws.{Right}
+use Rattle.run.proofs.RunRightLaws.{run-right}
 use Rattle.run.specs.Listing.{listed, row_place}
 use Rattle.running.specs.declared.Answer.{Answer}
 use Rattle.running.specs.declared.Answer.TheVariants.{Refused}

@@ -18,7 +18,7 @@ use Rattle.distances.specs.Distances.{Distance, Hop, Table, far_of, zero_far, di
 use Rattle.distances.proofs.TableLaws.{rounds-bound}
 use Rattle.distances.proofs.EstimateLaws.{state-far}
 use Rattle.run.specs.Run.{Walk, arrived, flawed, walk, trace, next_hop, Look, hopeless, planned, flaw, look, look_from, look_walk, plan, end_of, run}
-use Rattle.run.proofs.RunLaws.{run-right}
+use Rattle.run.proofs.RunRightLaws.{run-right}
 
 module _ (t : Task) (bs : Blocks) where
   trace-short : (l : Table) (n : ℕ) (a : Block) → length (trace t bs l n a) ≤ n

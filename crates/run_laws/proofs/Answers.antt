@@ -27,7 +27,8 @@ use Rattle.sheets.specs.Holding.{task_on}
 use Rattle.sheets.proofs.HeldTaskLaws.{accepted-task}
 use Rattle.run.specs.Run as run
 use Rattle.run.specs.Run.{plan, no_plan, «open», rows, rows_of, block_count}
-use Rattle.run.proofs.RunLaws.{Cheapest, NoPlan as NonePlans, Right, run-right}
+use Rattle.run.proofs.RunLaws.{Cheapest, NoPlan as NonePlans, Right}
+use Rattle.run.proofs.RunRightLaws.{run-right}
 use Rattle.blocks.specs.Flat.{cut_place}
 use Rattle.run.specs.Listing.{listed, row_place}
 use Rattle.running.specs.declared.Answer.{Answer}
@@ -35,7 +36,8 @@ use Rattle.running.specs.declared.Answer.TheVariants.{Plan, NoPlan, Open, Refuse
 use Rattle.running.specs.Running.{room_checks, run_checks, returned, number, RunOutcome, run_outcome, made, running, Runs}
 use Rattle.running.proofs.RunningLaws.{room_fits}
 use Rattle.run_laws.proofs.Refusals.{runner}
-use Rattle.run_laws.proofs.Flaws.{OnePerFlaw, one-per-flaw}
+use Rattle.run_laws.proofs.Flaws.{OnePerFlaw}
+use Rattle.run_laws.proofs.FlawLaws.{one-per-flaw}
 
 -- a plan in the list: its steps, its cost, and that none is cheaper
 pub record Planned (t : Task) (cost count : ℕ) (list₀ list : List ℕ) : Type 0 where

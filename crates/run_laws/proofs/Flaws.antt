@@ -41,7 +41,7 @@ module _ (t : Task) where
           let z : length cs ≡ i = omega (arith, length-append cs (c ∷ [])) in
           at i e cs c (take_at cs (c ∷ []) i z) (get_or_at cs c [] d i z) q
 
-  cut_at : {made : List Cut} → Ruled t made → (before after : List Cut) (c : Cut) → made ≡ before ++ (c ∷ after) → FlawMet before c
+  pub cut_at : {made : List Cut} → Ruled t made → (before after : List Cut) (c : Cut) → made ≡ before ++ (c ∷ after) → FlawMet before c
   cut_at {made = made} r before after c e =
       let n : length made ≡ length before + length (c ∷ after) = ap length e ∙ length-append before (c ∷ after) in
       let w = ruled-at r (length before) c (omega arith) in
@@ -55,15 +55,12 @@ module _ (t : Task) where
   same-cut before c d p q = ap (λ (l : Look). Option.get_or (cut_of l) c) (sym p.1 ∙ q.1)
 
   module _ (room : ℕ) (o : Outcome) (r : RunRight t room o) where
-    full : (c : Cut) → FlawMet o.made c → length o.made + 1 ≡ room
+    pub full : (c : Cut) → FlawMet o.made c → length o.made + 1 ≡ room
     unfolding end_of
     full c f = let z = subst (Right t room o.made) (r.ends ∙ ap end_of f.1) r.right in omega (arith, z.0)
 
-    brings : (before after : List Cut) (c : Cut) → o.made ≡ before ++ after → FlawMet before c → length before + 1 < room → (rest : List Cut) × (after ≡ c ∷ rest)
+    pub brings : (before after : List Cut) (c : Cut) → o.made ≡ before ++ after → FlawMet before c → length before + 1 < room → (rest : List Cut) × (after ≡ c ∷ rest)
     brings before [] c e f h =
         let q : o.made ≡ before = e ∙ append-nil before in
         absurd (omega (arith, full c (subst (λ (l : List Cut). FlawMet l c) (sym q) f), ap length q))
     brings before (d ∷ rest) c e f h = (rest, ap (λ (x : Cut). x ∷ rest) (same-cut before d c (cut_at r.ruled before rest d e) f))
-
-    pub one-per-flaw : OnePerFlaw room o.made
-    one-per-flaw = record { of-flaw = cut_at r.ruled; brought = brings; last-full = full }

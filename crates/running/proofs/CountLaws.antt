@@ -21,7 +21,7 @@ use Rattle.sheets.specs.Holding.{task_on}
 use Rattle.sheets.proofs.HeldTaskLaws.{accepted-task}
 use Rattle.run.specs.Run as run
 use Rattle.run.specs.Run.{plan, no_plan, «open», block_count, rows_of}
-use Rattle.run.proofs.RunLaws.{run-right}
+use Rattle.run.proofs.RunRightLaws.{run-right}
 use Rattle.run.proofs.LengthLaws.{plan-short}
 use Rattle.blocks.specs.Flat.{cut_place}
 use Rattle.run.specs.Listing.{listed, row_place}

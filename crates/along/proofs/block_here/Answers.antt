@@ -27,8 +27,8 @@ loop-i-preserved c =
       omega arith,
       elim c.if-sends_on.branch [ then-sends_on w ↦ omega (arith, w.a-is) | else-sends_on w ↦ omega (arith, w.a-is) ],
       elim c.if-sends_on.branch [
-        then-sends_on w ↦ w.a-is ∙ block_on g.cuts.now g.here.now l.i l.a _ l.invariant.2 t w.if-sends_on.true
-      | else-sends_on w ↦ w.a-is ∙ block-stays g.cuts.now g.here.now l.i l.a _ l.invariant.2 t w.if-sends_on.false
+        | then-sends_on w ↦ w.a-is ∙ block_on g.cuts.now g.here.now l.i l.a _ l.invariant.2 t w.if-sends_on.true
+        | else-sends_on w ↦ w.a-is ∙ block-stays g.cuts.now g.here.now l.i l.a _ l.invariant.2 t w.if-sends_on.false
       ],
     )
 

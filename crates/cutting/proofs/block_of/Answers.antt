@@ -31,13 +31,12 @@ unfolding cut_at
 loop-i-preserved c =
     let l = c.loop-i in
     let g = c.args in
-    let t = c.goes_on.ensures in
-    (
+    let t = c.goes_on.ensures in (
       omega arith,
       elim c.if-goes_on.branch [ then-goes_on w ↦ omega (arith, w.a-is) | else-goes_on w ↦ omega (arith, w.a-is) ],
       elim c.if-goes_on.branch [
-        then-goes_on w ↦ w.a-is ∙ c.next_number-next.ensures ∙ sym (followed-on g.cuts.now g.state l.i l.a _ l.invariant.2 t w.if-goes_on.true)
-      | else-goes_on w ↦ w.a-is ∙ sym (followed-stay g.cuts.now g.state l.i l.a _ l.invariant.2 t w.if-goes_on.false)
+        | then-goes_on w ↦ w.a-is ∙ c.next_number-next.ensures ∙ sym (followed-on g.cuts.now g.state l.i l.a _ l.invariant.2 t w.if-goes_on.true)
+        | else-goes_on w ↦ w.a-is ∙ sym (followed-stay g.cuts.now g.state l.i l.a _ l.invariant.2 t w.if-goes_on.false)
       ],
     )
 

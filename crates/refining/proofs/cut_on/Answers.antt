@@ -52,8 +52,11 @@ shape_of-cuts-in_default c =
 pub returns-in_default : goal.returns-in_default
 returns-in_default c =
     let p = c.requires.fact_1 in
-    let e = c.look-seen.ensures in record { fact_1 = run-early p.0 p.1 c.loop-made.invariant _ _ e.fact_1 e.fact_2.0 c.end-in_default.ensures
-          (no-flaw _ _ (λ n d f. absurd (c.in_default.not-Flaw n d f))); fact_2 = e.fact_2.2 }
+    let e = c.look-seen.ensures in record {
+      fact_1 = run-early p.0 p.1 c.loop-made.invariant _ _ e.fact_1 e.fact_2.0 c.end-in_default.ensures
+          (no-flaw _ _ (λ n d f. absurd (c.in_default.not-Flaw n d f)));
+      fact_2 = e.fact_2.2;
+    }
 
 pub put_cut-requires : goal.put_cut-requires
 put_cut-requires c =

@@ -29,6 +29,9 @@ returns c =
     let old = c.args.dist.now in
     let e = c.fill_distances.ensures in
     let h = c.if-far.false in
-    let w = c.follow-found.ensures in record { fact_1 = (λ t cs g m.
+    let w = c.follow-found.ensures in record {
+      fact_1 = (λ t cs g m.
           let d = e.fact_1 t g.own in
-          rw c.see.ensures (seen-look _ _ _ ∙ walks t cs g m p.fact_1.0 old d h (w.fact_3 t cs _ (begins t cs g m p.fact_1.0 old d h)))); fact_2 = (rw c.see.ensures (seen-known _ _ _ _ w.fact_2.0), e.fact_2, w.fact_2.1) }
+          rw c.see.ensures (seen-look _ _ _ ∙ walks t cs g m p.fact_1.0 old d h (w.fact_3 t cs _ (begins t cs g m p.fact_1.0 old d h))));
+      fact_2 = (rw c.see.ensures (seen-known _ _ _ _ w.fact_2.0), e.fact_2, w.fact_2.1);
+    }

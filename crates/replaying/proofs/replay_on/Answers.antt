@@ -60,8 +60,12 @@ put_rows-requires c =
     let m = c.measure-count.ensures in
     let h = m.fact_1.1 in
     let d = m.fact_3 _ p.tabled.own in
-    let w = c.fill_along.ensures in record { fact_1 = (q.fact_2, c.if-rows-log.false); fact_2 = (λ i z. omega (arith, known_small q.fact_1 g.log.now p b good i z, k)); fact_3 = estimates-small q.fact_1 g.log.now p b good m.fact_1.0 h (replicate most_values 0) (omega (arith, h)) m.fact_2 (replicate limits.blocks 0) d
-            (replicate (limits.log + 1) 0) w }
+    let w = c.fill_along.ensures in record {
+      fact_1 = (q.fact_2, c.if-rows-log.false);
+      fact_2 = (λ i z. omega (arith, known_small q.fact_1 g.log.now p b good i z, k));
+      fact_3 = estimates-small q.fact_1 g.log.now p b good m.fact_1.0 h (replicate most_values 0) (omega (arith, h)) m.fact_2 (replicate limits.blocks 0) d
+          (replicate (limits.log + 1) 0) w;
+    }
 
 pub returns : goal.returns
 returns c =

@@ -19,5 +19,8 @@ returns c =
     let g = c.args in
     let q = c.requires in
     let st = c.start.ensures.fact_1 in
-    let se = c.settle.ensures.fact_1 in record { fact_1 = (λ t tables. all_coded t g.shape.columns g.count g.shape.steps g.tables.now (lands_in g.tables.now) (goals_in g.tables.now) g.costs.now g.sets.now tables
-          g.dist.now _ q.2 c.settle.ensures.fact_2 q.1 (record { each = se.each; small = se.small; rest = λ a h. se.rest a h ∙ st.rest a h })); fact_2 = c.settle.ensures.fact_2 }
+    let se = c.settle.ensures.fact_1 in record {
+      fact_1 = (λ t tables. all_coded t g.shape.columns g.count g.shape.steps g.tables.now (lands_in g.tables.now) (goals_in g.tables.now) g.costs.now g.sets.now tables
+          g.dist.now _ q.2 c.settle.ensures.fact_2 q.1 (record { each = se.each; small = se.small; rest = λ a h. se.rest a h ∙ st.rest a h }));
+      fact_2 = c.settle.ensures.fact_2;
+    }

@@ -20,14 +20,14 @@ loop-i-preserved c =
     let t = in-word g.w g.v c.loop-i.i (omega arith) ∙ sym c.has_bit.ensures in (
       omega arith,
       elim c.if-has_bit.branch [
-        then-has_bit+then-k-dist w ↦ ap length w.dist-is ∙ simp length-set i.1
-      | then-has_bit+else-k-dist w ↦ ap length w.dist-is ∙ i.1
-      | else-has_bit w ↦ ap length w.dist-is ∙ i.1
+        | then-has_bit+then-k-dist w ↦ ap length w.dist-is ∙ simp length-set i.1
+        | then-has_bit+else-k-dist w ↦ ap length w.dist-is ∙ i.1
+        | else-has_bit w ↦ ap length w.dist-is ∙ i.1
       ],
       elim c.if-has_bit.branch [
-        then-has_bit+then-k-dist w ↦ rw w.dist-is (lowered-end _ _ _ (lowered-set _ _ _ i.2 (omega arith) (t ∙ w.if-has_bit.true) w.if-k-dist.true) (omega arith))
-      | then-has_bit+else-k-dist w ↦ rw w.dist-is (lowered-end _ _ _ (lowered-skip _ _ _ i.2 (λ _. w.if-k-dist.false)) (omega arith))
-      | else-has_bit w ↦ rw w.dist-is (lowered-end _ _ _ (lowered-skip _ _ _ i.2 (λ e. absurd (false≢true (sym w.if-has_bit.false ∙ sym t ∙ e)))) (omega arith))
+        | then-has_bit+then-k-dist w ↦ rw w.dist-is (lowered-end _ _ _ (lowered-set _ _ _ i.2 (omega arith) (t ∙ w.if-has_bit.true) w.if-k-dist.true) (omega arith))
+        | then-has_bit+else-k-dist w ↦ rw w.dist-is (lowered-end _ _ _ (lowered-skip _ _ _ i.2 (λ _. w.if-k-dist.false)) (omega arith))
+        | else-has_bit w ↦ rw w.dist-is (lowered-end _ _ _ (lowered-skip _ _ _ i.2 (λ e. absurd (false≢true (sym w.if-has_bit.false ∙ sym t ∙ e)))) (omega arith))
       ],
     )
 

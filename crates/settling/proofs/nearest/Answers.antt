@@ -11,9 +11,9 @@ loop-i-preserved c =
     let s = c.loop-i.invariant.1 in (
       omega arith,
       elim c.if-done-i-eq0.branch [
-        then-done-i-eq0+then-d-low w ↦ rw (w.best-is, w.low-is) (scan-take _ _ _ s c.loop-i-test.true w.if-done-i-eq0.true w.if-d-low.true)
-      | then-done-i-eq0+else-d-low w ↦ rw (w.best-is, w.low-is) (scan-skip _ _ _ s (λ _. w.if-d-low.false))
-      | else-done-i-eq0 w ↦ rw (w.best-is, w.low-is) (scan-skip _ _ _ s (λ e. absurd (w.if-done-i-eq0.false e)))
+        | then-done-i-eq0+then-d-low w ↦ rw (w.best-is, w.low-is) (scan-take _ _ _ s c.loop-i-test.true w.if-done-i-eq0.true w.if-d-low.true)
+        | then-done-i-eq0+else-d-low w ↦ rw (w.best-is, w.low-is) (scan-skip _ _ _ s (λ _. w.if-d-low.false))
+        | else-done-i-eq0 w ↦ rw (w.best-is, w.low-is) (scan-skip _ _ _ s (λ e. absurd (w.if-done-i-eq0.false e)))
       ],
     )
 

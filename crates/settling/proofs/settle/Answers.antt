@@ -47,8 +47,11 @@ pub returns : goal.returns
 returns c =
     let i = c.loop-b.invariant in
     let cheap = c.shared_slice_known-1.given in
-    let none = c.nearest-b.ensures.none (omega (arith, c.nearest-b.ensures.within, c.if-count-b.true)) in record { fact_1 = record {
+    let none = c.nearest-b.ensures.none (omega (arith, c.nearest-b.ensures.within, c.if-count-b.true)) in record {
+      fact_1 = record {
         each = at-end _ _ _ _ (λ a s b l. l.out) (λ a s b l. l.into) (λ s. omega (arith, cheap s)) _ _ i.8 none;
         small = small-end _ _ _ _ (λ a s b l. l.out) (λ a s b l. l.into) (λ s. omega (arith, cheap s)) _ _ i.8 none;
         rest = i.7;
-      }; fact_2 = i.5 }
+      };
+      fact_2 = i.5;
+    }

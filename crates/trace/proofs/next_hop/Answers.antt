@@ -55,10 +55,10 @@ overflow_cast-result-then-s-steps c =
     let q = c.requires in
     let k : c.steps-test.b < limits.blocks =
     elim c.steps-test.branch [
-      else-steps-test w ↦ absurd (omega (arith, w.steps-test.false, c.if-s-steps.true))
-    | then-steps-test+then-loop-b-test+then-fits w ↦
-        let r = (tried g.shape.columns g.tables.now (lands_in g.tables.now) g.costs.now g.sets.now g.dist.now g.a.0 c.steps.s g.count _ w.to_try-last.ensures w.loop-b.b w.loop-b-test.true).1 in
-        omega (arith, w.b-is, r, q.1)
+      | else-steps-test w ↦ absurd (omega (arith, w.steps-test.false, c.if-s-steps.true))
+      | then-steps-test+then-loop-b-test+then-fits w ↦
+          let r = (tried g.shape.columns g.tables.now (lands_in g.tables.now) g.costs.now g.sets.now g.dist.now g.a.0 c.steps.s g.count _ w.to_try-last.ensures w.loop-b.b w.loop-b-test.true).1 in
+          omega (arith, w.b-is, r, q.1)
     ] in
     search (k, rules)
 
@@ -69,12 +69,12 @@ returns-then-s-steps-clause-fact_1 c =
     let f = fits_by g.shape.columns g.tables.now (lands_in g.tables.now) g.costs.now g.sets.now g.dist.now g.a.0 in
     let s = c.steps in
     elim c.steps-test.branch [
-      else-steps-test w ↦ absurd (omega (arith, w.steps-test.false, c.if-s-steps.true))
-    | then-steps-test+then-loop-b-test+then-fits w ↦
-        let k = tried g.shape.columns g.tables.now (lands_in g.tables.now) g.costs.now g.sets.now g.dist.now g.a.0 s.s g.count _ w.to_try-last.ensures w.loop-b.b w.loop-b-test.true in
-        rw w.b-is
-        (sym (found f g.shape.steps g.count s.s w.loop-b.b w.steps-test.true k.1 s.invariant.1 w.loop-b.invariant.1
-        (next-yes f s.s w.loop-b.b _ (w.fits.ensures ∙ fits-rest g.shape.columns g.tables.now (lands_in g.tables.now) g.costs.now g.sets.now g.dist.now g.a.0 s.s w.loop-b.b _ k.0 w.after-rest.ensures) w.if-fits.true)))
+      | else-steps-test w ↦ absurd (omega (arith, w.steps-test.false, c.if-s-steps.true))
+      | then-steps-test+then-loop-b-test+then-fits w ↦
+          let k = tried g.shape.columns g.tables.now (lands_in g.tables.now) g.costs.now g.sets.now g.dist.now g.a.0 s.s g.count _ w.to_try-last.ensures w.loop-b.b w.loop-b-test.true in
+          rw w.b-is
+          (sym (found f g.shape.steps g.count s.s w.loop-b.b w.steps-test.true k.1 s.invariant.1 w.loop-b.invariant.1
+          (next-yes f s.s w.loop-b.b _ (w.fits.ensures ∙ fits-rest g.shape.columns g.tables.now (lands_in g.tables.now) g.costs.now g.sets.now g.dist.now g.a.0 s.s w.loop-b.b _ k.0 w.after-rest.ensures) w.if-fits.true)))
     ]
 
 pub returns-then-s-steps-clause-fact_2 : goal.returns-then-s-steps-clause-fact_2

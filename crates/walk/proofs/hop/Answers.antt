@@ -28,9 +28,13 @@ returns-then-not-can_take c =
     let g = c.args in
     let n = c.next_hop-next in
     let w = c.in-To in
-    let can = sym c.can_take.ensures ∙ c.if-not-can_take.true in record { fact_1 = ap {B = Turn} Flawed c.row_cut.ensures ∙ turn-need g.shape.columns g.shape.steps g.count g.tables.now (lands_in g.tables.now)
+    let can = sym c.can_take.ensures ∙ c.if-not-can_take.true in record {
+      fact_1 = ap {B = Turn} Flawed c.row_cut.ensures ∙ turn-need g.shape.columns g.shape.steps g.count g.tables.now (lands_in g.tables.now)
           g.costs.now
-          g.sets.now g.dist.now g.a g.here.now _ n.ensures.fact_1 w.s w.b w.is can; fact_2 = refl; fact_3 = c.requires.3 }
+          g.sets.now g.dist.now g.a g.here.now _ n.ensures.fact_1 w.s w.b w.is can;
+      fact_2 = refl;
+      fact_3 = c.requires.3;
+    }
 
 pub lands_in-requires : goal.lands_in-requires
 lands_in-requires c =
@@ -55,9 +59,13 @@ returns-then-not-lands_in c =
     let n = c.next_hop-next in
     let w = c.in-To in
     let can = sym c.can_take.ensures ∙ c.if-not-can_take.false in
-    let lands = sym c.lands_in.ensures ∙ c.if-not-lands_in.true in record { fact_1 = ap {B = Turn} Flawed c.back_cut.ensures ∙ turn-back g.shape.columns g.shape.steps g.count g.tables.now (lands_in g.tables.now)
+    let lands = sym c.lands_in.ensures ∙ c.if-not-lands_in.true in record {
+      fact_1 = ap {B = Turn} Flawed c.back_cut.ensures ∙ turn-back g.shape.columns g.shape.steps g.count g.tables.now (lands_in g.tables.now)
           g.costs.now
-          g.sets.now g.dist.now g.a g.here.now _ n.ensures.fact_1 w.s w.b w.is can lands; fact_2 = refl; fact_3 = c.requires.3 }
+          g.sets.now g.dist.now g.a g.here.now _ n.ensures.fact_1 w.s w.b w.is can lands;
+      fact_2 = refl;
+      fact_3 = c.requires.3;
+    }
 
 pub take-requires : goal.take-requires
 take-requires c =

@@ -22,10 +22,10 @@ pub loop-j-preserved : goal.loop-j-preserved
 unfolding at
 loop-j-preserved c =
     let g = c.args in (
-  search rules,
-  row_more g.self.need (g.step.0 * limits.columns) g.state c.loop-j.j
-      c.loop-j.invariant.1 (sym c.met.ensures ∙ c.if-not-met.false),
-)
+      search rules,
+      row_more g.self.need (g.step.0 * limits.columns) g.state c.loop-j.j
+          c.loop-j.invariant.1 (sym c.met.ensures ∙ c.if-not-met.false),
+    )
 
 pub returns : goal.returns
 returns c =
