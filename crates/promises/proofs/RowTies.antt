@@ -1,5 +1,5 @@
--- `rows::put_rows` and `rows::run` have lists of structs lent to them, and whoever passes such a list on is walked by hand. So no function above them ties
--- them to the theorems: their contracts are tied themselves. Each asks nothing of its caller, and what it ensures is its promise and nothing else.
+-- Lists of structs are lent to `rows::put_rows` and `rows::run`. They are tied to the theorems by their contracts, and not by functions above them: each asks
+-- nothing of its caller, and what it ensures is its promise and nothing else.
 use mathlib.Core.Path.{◌≡◌, refl}
 use seplogic.Ra.Ura.{Ura}
 use base.Logic.{SProp, emp}

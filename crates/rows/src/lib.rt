@@ -69,7 +69,7 @@ pub fn put_rows(rows: &mut [Row], values: &[u32], n: usize) -> usize
     m
 }
 
-// How many rows an answer has, for the run below, whose calls are proved by hand.
+// How many rows an answer has, for the run below.
 fn row_count(answer: Answer) -> usize
     ensures { result ≡ row_count answer }
 {
