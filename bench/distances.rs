@@ -2,8 +2,9 @@
 // comparison of 200 random graphs with a relaxation on need and effect marks.
 //
 // The library exports no pass. To measure, mark `fill_distances` of crates/settling in a copy of the repository
-// `#[no_mangle] pub extern "C"` and `Shape` of crates/task `#[repr(C)]`, build it with `rt staticlib settling`, and then here
-//     rustc -O --out-dir target/bench bench/distances.rs -L COPY/target/staticlib -lsettling && target/bench/distances
+// `#[unsafe(no_mangle)] pub extern "C"` and `Shape` of crates/task `#[repr(C)]`, call it `settling staticlib` in crates.txt, take the crates above it out
+// of there, build it by `rt lib` in crates/settling, and then here
+//     rustc -O --out-dir target/bench bench/distances.rs -L COPY/crates/settling/out -lsettling && target/bench/distances
 mod clock;
 mod models;
 mod plain;

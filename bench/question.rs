@@ -1,20 +1,20 @@
 // A question of 64 states after 255 cuts, on models at the limits: the library beside the same algorithm in plain Rust, in one run, with
 // the stack that each touches. Every estimate is compared. The plain one alone, without the library:
 //     rustc -O --out-dir target/bench bench/question.rs && target/bench/question
-// With the archive that `rt staticlib historian` writes:
+// With the archive that tools/build writes:
 //     rustc -O --cfg library --out-dir target/bench bench/question.rs -L target/staticlib -lhistorian && target/bench/question
-// Before there is one: in a copy of the repository, a crate `ask` (in crates.txt as `ask: asking`) of
+// Before there is one: in a copy of the repository, a crate `ask` (in crates.txt as `ask staticlib: asking`) of
 //     use asking::Asked;
 //     use asking::question;
-//     #[no_mangle]
+//     #[unsafe(no_mangle)]
 //     pub extern "C" fn question_numbers(model: &[u8], sheet: &[u8], states: &[u8], estimates: &mut [u32]) -> u32 {
 //         match question(model, sheet, states, estimates) {
 //             Asked::Estimates(_) => 0,
 //             Asked::Refused(r) => r as u32,
 //         }
 //     }
-// built by `rt staticlib ask`, and then
-//     rustc -O --cfg numbers --out-dir target/bench bench/question.rs -L COPY/target/staticlib -lask && target/bench/question
+// built by `rt lib` in crates/ask, and then
+//     rustc -O --cfg numbers --out-dir target/bench bench/question.rs -L COPY/crates/ask/out -lask && target/bench/question
 mod clock;
 #[cfg(library)]
 mod entries;

@@ -2,7 +2,7 @@
 // question of 64 states on the same sheets, in one run, with the stack that each touches. Every byte of the rows is compared, and the rows
 // are held to the estimates of the states along the log. The plain one alone, without the library:
 //     rustc -O --out-dir target/bench bench/replay.rs && target/bench/replay
-// With the archive that `rt staticlib historian` writes (a number after it says how often each call is made):
+// With the archive that tools/build writes (a number after it says how often each call is made):
 //     rustc -O --cfg library --out-dir target/bench bench/replay.rs -L target/staticlib -lhistorian && target/bench/replay
 mod clock;
 #[cfg(library)]

@@ -1,7 +1,7 @@
 // A whole run: the library's C entry beside the same algorithm in plain Rust, in one run, with the stack that each touches and where the
 // time of the plain one goes. Answers and every byte of both lists are compared. The plain one alone, without the library:
 //     rustc -O --out-dir target/bench bench/run.rs && target/bench/run
-// With the archive that `rt staticlib historian` writes (a number after it says how often a model at the limits is run):
+// With the archive that tools/build writes (a number after it says how often a model at the limits is run):
 //     rustc -O --cfg library --out-dir target/bench bench/run.rs -L target/staticlib -lhistorian && target/bench/run
 mod clock;
 #[cfg(library)]

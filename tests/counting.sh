@@ -25,10 +25,15 @@ make_scratch() {
     trap 'rm -rf "$scratch"' EXIT
 }
 
+# line CRATE: what crates.txt says of it. The name stands before the colon, and before the word of a static library.
+line() {
+    grep -E "^$1( [^:]*)?:" crates.txt
+}
+
 # below CRATE: on one line all that a crate rests on, of the repository in the order of crates.txt, then of the kit. A line of crates.txt has what the crate itself names, and no more.
 below() {
     CRATE=$1 awk -F : '
-        { name[NR] = $1; uses[NR] = $2 }
+        { split($1, words, " "); name[NR] = words[1]; uses[NR] = $2 }
         END {
             reached[ENVIRON["CRATE"]] = more = 1
             while (more)
@@ -43,16 +48,29 @@ below() {
         }' crates.txt
 }
 
-# make_program NAME SOURCE LIBRARY: makes $scratch a repository of its own, of the product's crates and a program that calls the library.
+# copied CRATE..: puts the text of those that are the repository's below $scratch, without what was made of it. rt takes no link to a crate outside.
+copied() {
+    local crate part
+    for crate in "$@"; do
+        for part in src specs proofs; do
+            [ -d "crates/$crate/$part" ] || continue
+            mkdir -p "$scratch/crates/$crate"
+            cp -r "crates/$crate/$part" "$scratch/crates/$crate/"
+        done
+    done
+}
+
+# make_program NAME SOURCE LIBRARY: makes $scratch a repository of its own, of a library of the product, what that rests on, and a program that calls them.
 make_program() {
     local crate
+    # shellcheck disable=SC2046
+    copied $(below "$3") "$3"
     mkdir -p "$scratch/crates/$1/src"
-    for crate in "$PWD"/crates/*; do
-        ln -s "$crate" "$scratch/crates/"
-    done
     cp "$2" "$scratch/crates/$1/src/main.rt"
-    cp crates.txt "$scratch/"
-    echo "$1: $(below "$3") $3 io libc" >>"$scratch/crates.txt"
+    {
+        for crate in $(below "$3") "$3"; do line "$crate"; done
+        echo "$1: $(below "$3") $3"
+    } >"$scratch/crates.txt"
 }
 
 # Bytes as hexadecimal digits, and back.

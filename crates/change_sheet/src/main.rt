@@ -3,13 +3,42 @@
 // refused by an earlier field's number or by 6, which the bytes read already show.
 #![tactic(auto)]
 
-use libc::{STDIN_FILENO, STDOUT_FILENO};
-use lines::put_printed;
+ghost use Rattle.std.specs.Prelude.{◌≤◌, length};
 
-fn main() {
-    let mut input = io::buffer();
-    let n = io::read_full(STDIN_FILENO, &mut input);
-    let mut out = io::large_buffer();
+use lines::put_printed;
+use std::io::{Read, Write};
+
+// Reads until `buf` is full, the input ends or a read fails, and returns how many bytes stand at its start.
+fn read_full<R: Read>(input: &mut R, buf: &mut [u8]) -> usize
+    ensures { result ≤ length buf.new }
+{
+    let mut done = 0;
+    while done < buf.len() {
+        match input.read(&mut buf[done..]) {
+            Ok(0) => break,
+            Ok(n) => done += n,
+            Err(_) => break,
+        }
+    }
+    done
+}
+
+// Writes all of `bytes`, or stops at the first write that takes nothing or fails: what was written before it stays.
+fn write_all<W: Write>(output: &mut W, bytes: &[u8]) {
+    let mut done = 0;
+    while done < bytes.len() {
+        match output.write(&bytes[done..]) {
+            Ok(0) => break,
+            Ok(n) => done += n,
+            Err(_) => break,
+        }
+    }
+}
+
+fn main(rt: HostRuntime) {
+    let mut input = [0u8; 4096];
+    let n = read_full(&mut rt.stdin(), &mut input);
+    let mut out = [0u8; 65536];
     let k = put_printed(&input[..n], &mut out);
-    io::write_all(STDOUT_FILENO, &out[..k]);
+    write_all(&mut rt.stdout(), &out[..k]);
 }

@@ -1,4 +1,5 @@
-// The run, the question and the replay as the historian calls them, a C program that passes byte lists and numbers. Nothing is asked of the caller.
+// The run, the question and the replay as the historian calls them, a C program that passes byte lists and numbers: `historian_c` has them for it.
+// Nothing is asked of the caller.
 #![tactic(auto)]
 
 ghost use Rattle.std.specs.Prelude.{◌≡◌, ◌+◌, ◌-◌, ◌*◌, ◌≤◌, length};
@@ -117,8 +118,7 @@ fn replay_in(
 }
 
 // A run: three values of four bytes each for a cut and for a row. The answer is one number.
-#[unsafe(no_mangle)]
-pub extern "C" fn elhavir_run(sheet: &[u8], room: u32, cuts: &mut [u8], rows: &mut [u8]) -> u64
+pub fn elhavir_run(sheet: &[u8], room: u32, cuts: &mut [u8], rows: &mut [u8]) -> u64
     ensures { EntryRuns sheet.now room cuts.old rows.old result cuts.new rows.new }
 {
     let mut cut_list = [0u32; (Model::BLOCKS - 1) * 3];
@@ -127,13 +127,7 @@ pub extern "C" fn elhavir_run(sheet: &[u8], room: u32, cuts: &mut [u8], rows: &m
 }
 
 // A question: four bytes for each estimate. It returns 0, or the refusal number.
-#[unsafe(no_mangle)]
-pub extern "C" fn elhavir_question(
-    model: &[u8],
-    sheet: &[u8],
-    states: &[u8],
-    estimates: &mut [u8],
-) -> u32
+pub fn elhavir_question(model: &[u8], sheet: &[u8], states: &[u8], estimates: &mut [u8]) -> u32
     ensures { EntryAsks model.now sheet.now states.now estimates.old result estimates.new }
 {
     let mut list = [0u32; Model::STATES];
@@ -141,8 +135,7 @@ pub extern "C" fn elhavir_question(
 }
 
 // A replay: four bytes for each step of the log, three values of four bytes each for a row. The answer is one number.
-#[unsafe(no_mangle)]
-pub extern "C" fn elhavir_replay(model: &[u8], sheet: &[u8], log: &[u8], rows: &mut [u8]) -> u64
+pub fn elhavir_replay(model: &[u8], sheet: &[u8], log: &[u8], rows: &mut [u8]) -> u64
     ensures { EntryReplays model.now sheet.now log.now rows.old result rows.new }
 {
     let mut steps = [0u32; Model::LOG + 1];
