@@ -168,10 +168,13 @@ pub fn refine(
     cuts: &mut [u32],
     path: &mut Path,
 ) -> Ended
-    requires { ((spare < limits.blocks) × (spare * 3 ≤ length cuts.old)) × (((length sets.old ≡ block_places) × (length path.old ≡ limits.blocks)) × (First shape tables.now costs.now sets.old)) }
-    ensures { (((t : Task) → Tabled t shape tables.now costs.now
+    requires fact_1 { (spare < limits.blocks) × (spare * 3 ≤ length cuts.old) }
+    requires fact_2 { (length sets.old ≡ block_places) × (length path.old ≡ limits.blocks) }
+    requires fact_3 { First shape tables.now costs.now sets.old }
+    ensures fact_1 { ((t : Task) → Tabled t shape tables.now costs.now
         → Uncut t shape sets.old
-        → RunEnds (refine t spare []) result shape.steps cuts.old cuts.new path.new)) × (length path.new ≡ limits.blocks) }
+        → RunEnds (refine t spare []) result shape.steps cuts.old cuts.new path.new) }
+    ensures fact_2 { length path.new ≡ limits.blocks }
 {
     let mut dist = [0u64; Model::BLOCKS];
     cut_on(shape, spare, tables, costs, cuts, sets, &mut dist, path)

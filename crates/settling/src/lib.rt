@@ -161,8 +161,8 @@ fn tries(
     narrow: &[usize; Model::COLUMNS],
     dist: &mut Distances,
 )
-    requires fact_1 { (columns ≤ limits.columns) × (count ≤ limits.blocks) × (steps ≤ limits.steps) × (used ≡ words_for count) × (steps ≤ length costs.now)
-        × (b < count) × (length dist.old ≡ limits.blocks) × (get_or dist.old b 0 < no_way) }
+    requires fact_1 { (columns ≤ limits.columns) × (count ≤ limits.blocks) × (steps ≤ limits.steps)
+        × (used ≡ words_for count) × (steps ≤ length costs.now) × (b < count) × (length dist.old ≡ limits.blocks) × (get_or dist.old b 0 < no_way) }
     requires fact_2 { Able columns steps tables.now sets.now used able.now }
     requires fact_3 { Met columns used sets.now (past sets.now (row_of b)) meets.now }
     requires fact_4 { Open count used dist.old b left.now }
@@ -200,8 +200,9 @@ fn relax(
     narrow: &mut [usize; Model::COLUMNS],
     dist: &mut Distances,
 )
-    requires fact_1 { (columns ≤ limits.columns) × (count ≤ limits.blocks) × (steps ≤ limits.steps) × (used ≡ words_for count) × (steps ≤ length costs.now)
-        × (b < count) × (length dist.old ≡ limits.blocks) × (get_or dist.old b 0 < no_way) × (length held.old ≡ limits.columns)
+    requires fact_1 { (columns ≤ limits.columns) × (count ≤ limits.blocks) × (steps ≤ limits.steps)
+        × (used ≡ words_for count) × (steps ≤ length costs.now) × (b < count) × (length dist.old ≡ limits.blocks)
+        × (get_or dist.old b 0 < no_way) × (length held.old ≡ limits.columns)
         × (length meets.old ≡ limits.columns * words) × (length left.old ≡ words) × (length narrow.old ≡ limits.columns) }
     requires fact_2 { Able columns steps tables.now sets.now used able.now }
     requires fact_3 { Met columns used sets.now (held_in held.old) meets.old }
@@ -237,8 +238,9 @@ fn settle(
     done: &mut [u8; Model::BLOCKS],
     dist: &mut Distances,
 )
-    requires fact_1 { (columns ≤ limits.columns) × (count ≤ limits.blocks) × (steps ≤ limits.steps) × (used ≡ words_for count) × (steps ≤ length costs.now)
-        × (length dist.old ≡ limits.blocks) × (length held.old ≡ limits.columns) × (length meets.old ≡ limits.columns * words)
+    requires fact_1 { (columns ≤ limits.columns) × (count ≤ limits.blocks) × (steps ≤ limits.steps)
+        × (used ≡ words_for count) × (steps ≤ length costs.now) × (length dist.old ≡ limits.blocks)
+        × (length held.old ≡ limits.columns) × (length meets.old ≡ limits.columns * words)
         × (length left.old ≡ words) × (length narrow.old ≡ limits.columns) × (length done.old ≡ limits.blocks) }
     requires fact_2 { Able columns steps tables.now sets.now used able.now }
     requires fact_3 { Met columns used sets.now (held_in held.old) meets.old }

@@ -43,13 +43,12 @@ refine-ended-requires c =
     let k = c.if-r-ne0.false in
     let p = c.prepare-frame.ensures in
     let n = c.fill_whole.ensures in
-    let f = fits g.sheet.now g.room g.cuts.now g.rows.now e z j k in (
-      (omega (arith, f.few, f.some), f.cuts_fit),
-      (
-        (long g.sheet.now g.room g.cuts.now g.rows.now e z j k p (replicate block_places 0) n (search rules), search rules),
-        ready g.sheet.now g.room g.cuts.now g.rows.now e z j k p (replicate block_places 0) n,
-      ),
-    )
+    let f = fits g.sheet.now g.room g.cuts.now g.rows.now e z j k in
+    record {
+      fact_1 = (omega (arith, f.few, f.some), f.cuts_fit);
+      fact_2 = (long g.sheet.now g.room g.cuts.now g.rows.now e z j k p (replicate block_places 0) n (search rules), search rules);
+      fact_3 = ready g.sheet.now g.room g.cuts.now g.rows.now e z j k p (replicate block_places 0) n;
+    }
 
 pub tell-requires : goal.tell-requires
 tell-requires c =
@@ -60,7 +59,7 @@ tell-requires c =
     let k = c.if-r-ne0.false in
     let p = c.prepare-frame.ensures in
     let n = c.fill_whole.ensures in
-    let w = c.refine-ended.ensures.0 _ p.tabled (parted g.sheet.now g.room g.cuts.now g.rows.now e z j k p (replicate block_places 0) n) in (
+    let w = c.refine-ended.ensures.fact_1 _ p.tabled (parted g.sheet.now g.room g.cuts.now g.rows.now e z j k p (replicate block_places 0) n) in (
       known g.sheet.now g.room g.cuts.now g.rows.now e z j k p w,
       room-for-steps g.sheet.now g.room g.cuts.now g.rows.now e z j k p w,
     )
@@ -74,6 +73,6 @@ returns c =
     let k = c.if-r-ne0.false in
     let p = c.prepare-frame.ensures in
     let n = c.fill_whole.ensures in
-    let w = c.refine-ended.ensures.0 _ p.tabled (parted g.sheet.now g.room g.cuts.now g.rows.now e z j k p (replicate block_places 0) n) in
+    let w = c.refine-ended.ensures.fact_1 _ p.tabled (parted g.sheet.now g.room g.cuts.now g.rows.now e z j k p (replicate block_places 0) n) in
     ran g.sheet.now g.room g.cuts.now g.rows.now e z j k p w
     (c.tell.ensures _ (path-costs g.sheet.now g.room g.cuts.now g.rows.now e z j k p w))
