@@ -200,6 +200,7 @@ pub fn fill_meets(
 }
 
 // Whether a block is there and not settled.
+#[tactic(auto, unfolding(crate::specs::Words::open_in))]
 fn is_open(count: usize, a: usize, done: &[u8; Model::BLOCKS]) -> bool
     requires { a < limits.blocks }
     ensures { result ≡ open_in count done.now a }

@@ -109,6 +109,7 @@ pub fn fill_tables(model: Model, tables: &mut Tables)
 }
 
 // Whether a step leads from one set to another, by its need and its landing there.
+#[tactic(auto, unfolding(blocks::specs::Masks::passes, blocks::specs::Masks::lies, blocks::specs::Blocks::common, blocks::specs::Blocks::is_empty))]
 fn passes(need: u32, land: u32, a: u32, b: u32) -> bool
     ensures { result ≡ passes need land a b }
 {

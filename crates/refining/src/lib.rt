@@ -107,6 +107,7 @@ fn end(seen: Seen, made: usize) -> Ended
 }
 
 // The start's block after a cut that makes a new one: only a cut of its own block can take it there.
+#[tactic(auto, unfolding(crate::specs::Refining::start_block, blocks::specs::Flat::past, blocks::specs::Blocks::common, blocks::specs::Blocks::is_empty))]
 fn start_block(from: Block, cut: Cut, new: usize, tables: &Tables) -> Block
     requires { (cut.column.0 < limits.columns) × (new < limits.blocks) }
     ensures { result ≡ start_block from cut new tables.now }

@@ -48,6 +48,7 @@ fn back_set(need: u32, land: u32, next: u32) -> u32
 }
 
 // Whether the present position isn't wanted. 0 wants every position.
+#[tactic(auto, unfolding(crate::specs::Standing::is_off, blocks::specs::Blocks::common, blocks::specs::Blocks::is_empty))]
 fn is_off(wanted: u32, here: u32) -> bool
     ensures { result ≡ is_off wanted here }
 {
