@@ -8,22 +8,21 @@ use base.Fraction.{full_share}
 use mir.Syntax.{Ty, erased, w32, ty_int, ty_array}
 use mir.Val.{Val}
 use base.Logic.{SProp, ent, sep, ex}
-use base.Fml.{Lft, GName, Fml, fsep, fat}
+use base.Fml.{Lft, GName, Fml, fsep, fat, feq, fhide, flent}
 use types.Logic.{Logic, sem}
-use types.Kit.{‵, raw, ◌$◌, ◌∵◌, !, qed, by, move, use1, rewrite, fsplit, fjoin, fpick, fpack, feq_l, feq_i, drop}
+use denote.Shadow.{pure_i}
+use types.Kit.{‵, later, ◌⊛◌, await, ◌$◌, ◌∵◌, !, qed, by, move, drop, use1, rewrite, split, fsplit, fjoin, fpick, fpack, feq_l, feq_i, updating, now, done}
 use types.SemTy.{cells, Arr}
-use types.Share.{arr_parts}
-use denote.Memory.{cell_at, part_at, mem, shares, part_of, shared_of}
+use types.Share.{arr_parts, parts}
+use denote.Memory.{cell_at, part_at, mem, shares, part_of}
 use denote.Array.{Array, array_val}
 use denote.ArrayMemory.{Array-apart, Array-whole}
 use denote.Builtin.{u32}
-use denote.Slice.{slice_val, MutSlice, ShrSlice, Room}
+use denote.Slice.{slice_val, MutSlice, ShrSlice, Room, elements_shared, shr_slice_at}
 use borrow.Rule.Slice.Shared.{parts-cells}
-use denote.Lend.{Held, lends_slice, lends_shr_slice}
-use denote.Shares.{SharesAsFrom}
-use ghost.Rules.{Toks, span}
-use types.Logic.{lfts}
-use base.Fml.{Incl}
+use denote.Lend.{Held, lends_slice}
+use denote.Copied.{uint_Copied, each_lends}
+use denote.Lends.{lent_cut}
 
 -- the type of the array
 abbrev pub array_ty : ℕ → Ty
@@ -48,8 +47,8 @@ module _ {M : Type 1} {𝓤 : Ura M} (𝓛 : Logic 𝓤) (n b : ℕ) (κ : Lft) 
   abbrev LentMut : ℕ → SProp 𝓤
   LentMut k = H.⇛ (ex 𝓤 (λ (γ : GName). sep 𝓤 ⟦ MutOf k γ ⟧ (A.lent κ (Held u32 k b 0 γ))))
 
-  abbrev LentShr : ℕ → Toks → SProp 𝓤
-  LentShr k ts = H.⇛ (sep 𝓤 (sep 𝓤 ⟦ ShrOf k ⟧ (A.lent κ (Elems k))) (lfts 𝓛 ts))
+  abbrev LentShr : ℕ → SProp 𝓤
+  LentShr k = H.⇛ (sep 𝓤 ⟦ ShrOf k ⟧ (A.lent κ (Elems k)))
 
   module _ (room : Room u32 n) where
     pub lend-mut : (v : Val) → ent 𝓤 (sep 𝓤 (H.at full_share (array_ty n) b 0 v) ⟦ (Array u32 n).own_val xs (v ∷ []) ⟧) (LentMut n)
@@ -62,13 +61,26 @@ module _ {M : Type 1} {𝓤 : Ura M} (𝓛 : Logic 𝓤) (n b : ℕ) (κ : Lft) 
         rewrite ! 0 (λ (F : Fml). ‵ F) (parts-cells u32 full_share xs b 0) refl $
         by ! (subst (λ (k : ℕ). ent 𝓤 ⟦ cells (mem u32) xs b 0 ⟧ (LentMut k)) l (lends_slice 𝓛 u32 erased κ xs b 0 (subst (Room u32) (sym l) room))))
 
-    -- with tokens of lifetimes that the loan stands within, which come back
-    pub lend-shr : (l : Lft) → SharesAsFrom 𝓛 full_share u32 (shared_of u32) l → (ts : Toks) → Incl (span ts) l → Incl (span ts) κ
-        → ent 𝓤 (sep 𝓤 ⟦ (Arr (mem u32) n).own_at xs b 0 ⟧ (lfts 𝓛 ts)) (LentShr n ts)
-    lend-shr l s ts i j =
-        qed 𝓛 (‵ ((Arr (mem u32) n).own_at xs b 0) ∷ raw (lfts 𝓛 ts) ∷ []) ∵ fsplit ! $ feq_l ! (λ e. rewrite ! 0 (λ (F : Fml). ‵ F) (sym (parts-cells u32 full_share xs b 0)) refl $
+    -- numbers can be copied, so they are lent with no token of a lifetime
+    lends-free : Room u32 (length xs) → ent 𝓤 ⟦ Elems (length xs) ⟧ (LentShr (length xs))
+    lends-free g =
+        let E : Fml = parts (mem u32) (shares u32) full_share xs b 0 in
+        let F : Fml = feq ℕ (length xs) (length xs) in
+        qed 𝓛 (‵ (Elems (length xs)) ∷ []) ∵ updating ! $
+        use1 𝓛 (later (‵ (fhide (elements_shared u32 xs b 0 κ)) ⊛ (‵ F ⊛ ‵ (flent κ (Elems (length xs))))))
+        (lent_cut 𝓛 (Elems (length xs)) E F (elements_shared u32 xs b 0)
+        (qed 𝓛 (‵ (Elems (length xs)) ∷ []) {P = sep 𝓤 ⟦ E ⟧ ⟦ F ⟧} (fsplit ! $ move ! (1 ∷ 0 ∷ []) $ done !))
+        (qed 𝓛 (‵ E ∷ ‵ F ∷ []) {P = ⟦ Elems (length xs) ⟧} (move ! (1 ∷ 0 ∷ []) $ fjoin ! $ done !))
+        (qed 𝓛 (‵ F ∷ []) {P = sep 𝓤 ⟦ F ⟧ ⟦ F ⟧} (feq_l ! (λ e. feq_i ! ℕ (length xs) (length xs) refl $ feq_i ! ℕ (length xs) (length xs) refl $ done !)))
+        (each_lends 𝓛 u32 (uint_Copied 𝓛 w32) full_share xs b 0) κ) $
+        await ! tt $ split ! $ move ! (1 ∷ []) $ split ! $ drop ! $ move ! (1 ∷ 0 ∷ []) $ now ! $
+        pure_i ! (shr_slice_at u32 (record { ref_ptr = (b, 0); now = xs }) (slice_val (b, 0) (length xs) ∷ [])) (tt, (tt, tt)) (refl, g) $ fjoin ! $ done !
+
+    pub lend-shr : ent 𝓤 ⟦ (Arr (mem u32) n).own_at xs b 0 ⟧ (LentShr n)
+    lend-shr =
+        qed 𝓛 (‵ ((Arr (mem u32) n).own_at xs b 0) ∷ []) ∵ fsplit ! $ feq_l ! (λ l. rewrite ! 0 (λ (F : Fml). ‵ F) (sym (parts-cells u32 full_share xs b 0)) refl $
         feq_i ! ℕ (length xs) (length xs) refl $ fjoin ! $
-        by ! (subst (λ (k : ℕ). ent 𝓤 (sep 𝓤 ⟦ Elems (length xs) ⟧ (lfts 𝓛 ts)) (LentShr k ts)) e (lends_shr_slice 𝓛 u32 erased κ full_share xs b 0 (subst (Room u32) (sym e) room) l s ts i j)))
+        by ! (subst (λ (k : ℕ). ent 𝓤 ⟦ Elems (length xs) ⟧ (LentShr k)) l (lends-free (subst (Room u32) (sym l) room))))
 
   -- the elements are room for the array
   pub elems-room : ent 𝓤 ⟦ Elems n ⟧ (H.room (array_ty n) b 0)
