@@ -8,6 +8,12 @@ ghost use Rattle.std.specs.Prelude.{◌≤◌, length};
 use lines::put_printed;
 use std::io::{Read, Write};
 
+// How much of the input is read: `input_bytes` of the definitions.
+const INPUT_BYTES: usize = 4096;
+
+// Room for the longest change sheet: `output_bytes` of the definitions, for which put_printed asks.
+const OUTPUT_BYTES: usize = 65536;
+
 // Reads until `buf` is full, the input ends or a read fails, and returns how many bytes stand at its start.
 fn read_full<R: Read>(input: &mut R, buf: &mut [u8]) -> usize
     ensures { result ≤ length buf.new }
@@ -36,9 +42,9 @@ fn write_all<W: Write>(output: &mut W, bytes: &[u8]) {
 }
 
 fn main(rt: HostRuntime) {
-    let mut input = [0u8; 4096];
+    let mut input = [0u8; INPUT_BYTES];
     let n = read_full(&mut rt.stdin(), &mut input);
-    let mut out = [0u8; 65536];
+    let mut out = [0u8; OUTPUT_BYTES];
     let k = put_printed(&input[..n], &mut out);
     write_all(&mut rt.stdout(), &out[..k]);
 }
