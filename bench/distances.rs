@@ -2,7 +2,7 @@
 // comparison of 200 random graphs with a relaxation on need and effect marks.
 //
 // The library exports no pass. To measure, mark `fill_distances` of crates/settling in a copy of the repository
-// `#[unsafe(no_mangle)] pub extern "C"` and `Shape` of crates/task `#[repr(C)]`, call it `settling staticlib` in crates.txt, take the crates above it out
+// `#[unsafe(no_mangle)] pub extern "C"`, and `Shape` of crates/task, `Tables` of crates/masks and `Blocks` of crates/cutting `#[repr(C)]`, call it `settling staticlib` in crates.txt, take the crates above it out
 // of there, build it by `rt lib` in crates/settling, and then here
 //     rustc -O --out-dir target/bench bench/distances.rs -L COPY/crates/settling/out -lsettling && target/bench/distances
 mod clock;
@@ -13,19 +13,29 @@ use clock::on_cpu;
 use models::Random;
 use plain::{Sets, Unwatched, NO_WAY};
 
-// As in the library: rows of needs, of landings, the goal, the start.
-type Tables = [u32; (2 * 128 + 2) * 16];
-
 #[repr(C)]
-#[derive(Clone, Copy)]
 struct Shape {
     columns: usize,
     steps: usize,
 }
 
-#[allow(improper_ctypes)]
+// As in the library: rows of needs, of landings, the goal, the start.
+#[repr(C)]
+struct Tables {
+    shape: Shape,
+    rows: [u32; (2 * 128 + 2) * 16],
+    costs: [u16; 128],
+    sizes: [u8; 16],
+}
+
+#[repr(C)]
+struct Blocks {
+    count: usize,
+    sets: Sets,
+}
+
 extern "C" {
-    fn fill_distances(shape: Shape, count: usize, tables: &Tables, costs: &[u16; 128], sets: &Sets, dist: &mut [u64; 256]);
+    fn fill_distances(tables: &Tables, blocks: &Blocks, dist: &mut [u64; 256]);
 }
 
 struct Case {
@@ -83,23 +93,21 @@ fn run(c: &Case, reps: usize) {
     for j in 0..16 {
         goals[j] = bit(c.goal[j]);
     }
-    let mut tables = [0u32; (2 * 128 + 2) * 16];
-    tables[..2048].copy_from_slice(&needs);
-    tables[2048..4096].copy_from_slice(&lands);
-    tables[4096..4112].copy_from_slice(&goals);
-    let mut costs = [0u16; 128];
-    costs[..c.steps].copy_from_slice(&c.costs[..c.steps]);
-    let shape = Shape { columns: c.columns, steps: c.steps };
-    let mut sets = [0u32; 4096];
-    sets[..c.sets.len()].copy_from_slice(&c.sets);
+    let mut tables = Tables { shape: Shape { columns: c.columns, steps: c.steps }, rows: [0; (2 * 128 + 2) * 16], costs: [0; 128], sizes: [0; 16] };
+    tables.rows[..2048].copy_from_slice(&needs);
+    tables.rows[2048..4096].copy_from_slice(&lands);
+    tables.rows[4096..4112].copy_from_slice(&goals);
+    tables.costs[..c.steps].copy_from_slice(&c.costs[..c.steps]);
+    let mut blocks = Blocks { count: c.count, sets: [0; 4096] };
+    blocks.sets[..c.sets.len()].copy_from_slice(&c.sets);
     let (mut ours, mut theirs) = (f64::MAX, f64::MAX);
     let (mut d1, mut d2) = ([7u64; 256], [7u64; 256]);
     for _ in 0..reps {
         let t = on_cpu();
-        unsafe { fill_distances(shape, c.count, &tables, &costs, &sets, &mut d1) };
+        unsafe { fill_distances(&tables, &blocks, &mut d1) };
         ours = ours.min(on_cpu() - t);
         let t = on_cpu();
-        plain::fill_distances(c.columns, c.steps, c.count, &needs, &lands, &goals, &c.costs, &sets, &mut d2, &mut Unwatched);
+        plain::fill_distances(c.columns, c.steps, c.count, &needs, &lands, &goals, &c.costs, &blocks.sets, &mut d2, &mut Unwatched);
         theirs = theirs.min(on_cpu() - t);
     }
     assert!(d1 == d2, "{}", c.name);
@@ -113,12 +121,13 @@ fn run(c: &Case, reps: usize) {
         for _ in 0..3 {
             let t = on_cpu();
             for count in 1..=256 {
-                unsafe { fill_distances(shape, count, &tables, &costs, &sets, &mut d1) };
+                blocks.count = count;
+                unsafe { fill_distances(&tables, &blocks, &mut d1) };
             }
             all = all.min(on_cpu() - t);
             let t = on_cpu();
             for count in 1..=256 {
-                plain::fill_distances(c.columns, c.steps, count, &needs, &lands, &goals, &c.costs, &sets, &mut d2, &mut Unwatched);
+                plain::fill_distances(c.columns, c.steps, count, &needs, &lands, &goals, &c.costs, &blocks.sets, &mut d2, &mut Unwatched);
             }
             plain_all = plain_all.min(on_cpu() - t);
         }

@@ -108,7 +108,7 @@ uint64_t elhavir_replay(const uint8_t *model, size_t model_len,
 #define ELHAVIR_MAX_CUT_PART_BYTES    1404u
 #define ELHAVIR_MAX_CUT_SHEET_BYTES   (ELHAVIR_MAX_MODEL_SHEET_BYTES + ELHAVIR_MAX_CUT_PART_BYTES)
 
-/* Stack that has to be free when an entry is called. Some 55,000 bytes were measured, and 58,000 in a first call, where memcpy and memset are bound
+/* Stack that has to be free when an entry is called. Some 52,500 bytes were measured, and 55,700 in a first call, where memcpy and memset are bound
  * at that moment; this leaves a margin. */
 #define ELHAVIR_STACK_BYTES 65536u
 

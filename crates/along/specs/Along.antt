@@ -1,5 +1,6 @@
 -- A log as code goes along it: the state stands as a row of sets with one position each, and its block is found by following the cuts.
-use Rattle.std.specs.Prelude.{Bool, not, ◌&&◌, cond, List, ℕ, zero, suc, ◌+◌, ◌*◌, ◌/◌, eqb, ltb, length, get_or}
+use Rattle.std.specs.Prelude.{Bool, not, ◌&&◌, cond, List, ℕ, zero, suc, ◌+◌, ◌*◌, ◌/◌, eqb, ltb, length, get_or, Some, None}
+use Rattle.std.specs.Prelude as prelude
 use Rattle.std.proofs.Math.Option
 use Rattle.std.proofs.Math.Option.{Option}
 use Rattle.task.specs.Loops.{first, when}
@@ -25,6 +26,11 @@ stop_at columns steps needs lands log here i = when (not (goes_by columns steps 
 -- the first such row; 0 where there is none
 unfoldable pub stop_row : ℕ → ℕ → List ℕ → List ℕ → List ℕ → List PositionSet → ℕ
 stop_row columns steps needs lands log here = Option.get_or (first (length log) (stop_at columns steps needs lands log here)) 0
+
+-- such a row as an answer
+abbrev pub row_of : ℕ → prelude.Option ℕ
+row_of zero = None
+row_of (suc n) = Some (suc n)
 
 -- ---- the estimates
 

@@ -1,6 +1,6 @@
 -- Masks of tests, words of blocks, and tables of them.
 use mathlib.Core.Path.{◌≡◌, refl, sym, subst, ◌∙◌, ap, ap₂}
-use mathlib.Core.Logic.{◌⊎◌, inl, inr, ⊎_elim, ◌≢◌}
+use mathlib.Core.Logic.{⊎_elim, ◌≢◌}
 use mathlib.Core.Bool.{Bool, true, false, not, cond, ◌&&◌, and-false}
 use mathlib.Core.List.{List}
 use Prim.Native.Nat.{ℕ, zero, suc, ◌+◌, ◌-◌, ◌*◌, ◌/◌, ◌%◌, ◌^◌, ◌<◌, ◌≤◌}
@@ -9,21 +9,20 @@ use native.Mathlib.Numerals.{add-one}
 use native.Mathlib.Decide.{dec_lt}
 use native.Mathlib.Omega.{arith}
 use lib.Dec.{eqb}
-use lib.Pow.{pow_pos, pow_mono}
+use lib.Pow.{pow_pos}
 use lib.Bits.{bit_and, and_block, and_mask, and_zero_r}
-use lib.ListN.{length, get_or, set}
+use lib.ListN.{length, get_or, set, replicate}
 use lib.Seq.{get_or-set_same, get_or-set_other}
 use borrow.Author.Tests.{eq-eqb, ne_eqb}
-use borrow.Author.Count.{below_none, below_more}
+use borrow.Author.Count.{below_more}
 use Rattle.task.specs.Loops.{all}
-use Rattle.task.specs.Sizes.{limits}
 use Rattle.task.proofs.LoopLaws.{below_suc, true-or-false}
 use Rattle.blocks.specs.Blocks.{common, is_empty}
 use Rattle.blocks.specs.Flat.{past, row_of}
 use Rattle.blocks.specs.Masks.{lies, all_lie}
 use Rattle.blocks.proofs.PartLaws.{same_or_not}
 use Rattle.arcs.specs.Arcs.{fits_in}
-use Rattle.arcs.specs.Words.{word, words, bits_below, nth, word_of, bit_at, need_in, meets_in, held_in, Able, RowAble, Met, RowMet, wide_in, Listed, Narrow}
+use Rattle.arcs.specs.Words.{word, words, bits_below, nth, word_of, bit_at, need_in, meets_in, held_in, Met, RowMet}
 
 -- ---- masks of tests
 bit : Bool → ℕ
@@ -143,31 +142,17 @@ word-told f a =
     let e : a / word * word + a % word ≡ a = omega arith in
     bit-told (λ i. f (a / word * word + i)) (a % word) word (omega arith) ∙ ap f e
 
--- ---- a word that is made bit by bit: its first i bits
-pub record Begun (f : ℕ → Bool) (w i v : ℕ) : Type 0 where
-  pub within : i ≤ word
-  pub bits : v ≡ bits_below (nth f w) i
+-- ---- a word that is made bit by bit: one bit more, by the test of its block
+pub made-more : (f : ℕ → Bool) (w i v r : ℕ) (t : Bool) → v ≡ bits_below (nth f w) i → t ≡ f (w * word + i) → r ≡ cond t (2 ^ i) 0 → v + r ≡ bits_below (nth f w) (i + 1)
+unfolding bits_below nth
+made-more f w i v r t e test new = rw (add-one, e, new, test) refl
 
-module _ (f : ℕ → Bool) (w : ℕ) where
-  pub begun-none : Begun f w 0 0
-  unfolding bits_below
-  begun-none = record { within = omega arith; bits = refl }
-
-  pub begun-end : {i v : ℕ} → Begun f w i v → word ≤ i → v ≡ word_of f w
-  unfolding word_of
-  begun-end {i} p h = let l = p.within in let e : i ≡ word = omega arith in rw e at p.bits
-
-  -- one bit more, by the test of its block
-  module _ {i v r : ℕ} {t : Bool} (p : Begun f w i v) (more : i < word) (test : t ≡ f (w * word + i)) (new : r ≡ cond t (2 ^ i) 0) where
-    pub begun_more : Begun f w (i + 1) (v + r)
-    unfolding bits_below nth
-    begun_more = record { within = omega arith; bits = rw (add-one, p.bits, new, test) refl }
-
-    pub begun-room : v + r < 4294967296
-    begun-room =
-        let l = bits-lt (nth f w) (i + 1) in
-        let s : 2 ^ (i + 1) ≤ 2 ^ word = pow_mono {i = i + 1} {j = word} (omega arith) in
-        omega (arith, begun_more.bits)
+pub made-low : (i v r : ℕ) (t : Bool) → v < 2 ^ i → r ≡ cond t (2 ^ i) 0 → v + r < 2 ^ (i + 1)
+made-low i v r t l e = rw (add-one, two-pow-succ) (go t e)
+  where
+    go : (t : Bool) → r ≡ cond t (2 ^ i) 0 → v + r < 2 ^ i + 2 ^ i
+    go true e = omega arith
+    go false e = let p = pow_pos i in omega arith
 
 -- a need that is none is held by every block
 pub no-need : (v : ℕ) (sets : List ℕ) (j w : ℕ) → v < 4294967296 → v ≡ bit_and v (word_of (need_in sets 0 j) w)
@@ -194,31 +179,14 @@ module _ (needs sets : List ℕ) (s w : ℕ) where
   unfolding fits_in all_lie all need_in
   fits_more j v r e h = h ∙ rw (add-one, e) (word_and _ _ w)
 
-module _ (columns steps : ℕ) (needs sets : List ℕ) where
-  pub able-none : (T : List ℕ) → Able columns steps needs sets 0 T
-  able-none T = record { each = λ w s l. absurd (not-suc-le-zero l) }
-
-  pub able-more : (w : ℕ) (T T' : List ℕ) → steps ≤ limits.steps → Able columns steps needs sets w T → RowAble columns steps needs sets w T T'
-      → Able columns steps needs sets (w + 1) T'
-  able-more w T T' h t r =
-      record {
-        each = λ x s l b.
-            below_more (λ y. get_or T' (y * limits.steps + s) 0 ≡ word_of (fits_in columns needs sets s) y) w
-            (λ y v. r.before (y * limits.steps + s) (omega arith) ∙ t.each y s v b)
-            (r.each s b)
-            x l;
-      }
+pub all-zero : (k a : ℕ) → ◌≡◌ {A = ℕ} (get_or (replicate k 0) a 0) 0
+all-zero zero a = refl
+all-zero (suc k) zero = refl
+all-zero (suc k) (suc a) = all-zero k a
 
 -- ---- the rows of columns
 module _ (used : ℕ) (sets : List ℕ) where
-  pub row_same : (j v v' : ℕ) (M : List ℕ) → v ≡ v' → RowMet used sets j v M M → RowMet used sets j v' M M
-  row_same j v v' M e r = record { each = λ w h. rw (← e) (r.each w h); before = λ i h. refl; after = λ i h. refl }
-
   module _ (columns : ℕ) where
-    pub met-row : (j : ℕ) (H M : List ℕ) → j < columns → Met columns used sets (held_in H) M → RowMet used sets j (get_or H j 0) M M
-    unfolding held_in
-    met-row j H M h m = record { each = λ w l. m.each j w h l; before = λ i l. refl; after = λ i l. refl }
-
     pub met-same : (f g : ℕ → ℕ) (M : List ℕ) → ((j : ℕ) → j < columns → f j ≡ g j) → Met columns used sets f M → Met columns used sets g M
     met-same f g M e m = record { each = λ j w h l. rw (← e j h) (m.each j w h l) }
 
@@ -250,41 +218,3 @@ module _ (used : ℕ) (sets : List ℕ) where
     pub met-zero : (H M : List ℕ) → ((j : ℕ) → get_or H j 0 ≡ 0) → ((i : ℕ) → get_or M i 0 ≡ 0) → Met columns used sets (held_in H) M
     unfolding held_in meets_in common is_empty
     met-zero H M h m = record { each = λ j w l k. m (j * words + w) ∙ sym (word-zero _ w (λ a. rw (h j, and_zero_r (past sets (row_of a) j)))) }
-
--- ---- the narrow columns
-module _ (used : ℕ) (M O : List ℕ) where
-  pub narrow-none : (N : List ℕ) → Narrow 0 used M O 0 N
-  narrow-none N = record { fits = omega arith; each = below_none _; others = below_none _ }
-
-  pub narrow-more : (j n r : ℕ) (t : Bool) (N : List ℕ) → Narrow j used M O n N → n < length N → t ≡ wide_in used M O j → r ≡ cond t 0 1 → Narrow (j + 1) used M O (n + r) (set N n j)
-  narrow-more j n r t N p l w e = go t w e
-    where
-      before : (i : ℕ) → i < n → get_or (set N n j) i 0 ≡ get_or N i 0
-      before i h = get_or-set_other N n i j 0 (λ q. omega arith)
-
-      old : (x : ℕ) → x < j → (m : ℕ) → n ≤ m → (wide_in used M O x ≡ true) ⊎ ((i : ℕ) × (i < m) × (get_or (set N n j) i 0 ≡ x))
-      old x h m k = ⊎_elim inl (λ v. inr (v.0, (let u = v.1 in omega arith), before v.0 v.1 ∙ v.2)) (p.others x h)
-
-      low : (i : ℕ) → i < n → get_or (set N n j) i 0 < j + 1
-      low i h = let u = p.each i h in let v = before i h in omega arith
-
-      go : (t : Bool) → t ≡ wide_in used M O j → r ≡ cond t 0 1 → Narrow (j + 1) used M O (n + r) (set N n j)
-      go true w e =
-          let u = p.fits in
-          record {
-            fits = omega arith;
-            each = λ i h. low i (omega arith);
-            others = below_more _ j (λ x h. old x h (n + r) (omega arith)) (inl (sym w));
-          }
-      go false w e =
-          let u = p.fits in
-          let same = get_or-set_same N n j 0 l in
-          let z : n + r ≡ n + 1 = omega arith in
-          rw z (record {
-            fits = omega arith;
-            each = below_more _ n low (omega arith);
-            others = below_more _ j (λ x h. old x h (n + 1) (omega arith)) (inr (n, omega arith, same));
-          })
-
-  pub narrow-listed : (columns n : ℕ) (N : List ℕ) → columns ≤ limits.columns → Narrow columns used M O n N → Listed n N
-  narrow-listed columns n N h p = record { each = λ i l. let u = p.each i l in omega arith }

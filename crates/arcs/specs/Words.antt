@@ -1,5 +1,5 @@
 -- Sets of blocks in words of 32 bits, and the tables of such words that tell an arc.
-use Rattle.std.specs.Prelude.{◌≡◌, Bool, true, cond, ◌&&◌, not, List, ◌⊎◌, ℕ, zero, suc, ◌+◌, ◌-◌, ◌*◌, ◌/◌, ◌%◌, ◌^◌, ◌<◌, ◌≤◌, eqb, ltb, get_or}
+use Rattle.std.specs.Prelude.{◌≡◌, Bool, true, false, cond, ◌&&◌, not, List, ◌⊎◌, ℕ, zero, suc, ◌+◌, ◌-◌, ◌*◌, ◌/◌, ◌%◌, ◌^◌, ◌<◌, ◌≤◌, eqb, ltb, get_or}
 use Rattle.std.specs.Int.Bits.{bit_and}
 use Rattle.task.specs.Sizes.{limits}
 use Rattle.blocks.specs.Blocks.{common, is_empty}
@@ -49,8 +49,8 @@ unfoldable pub meets_in : List ℕ → ℕ → ℕ → ℕ → Bool
 meets_in sets v j a = not (is_empty (common (past sets (row_of a) j) v))
 
 -- block a is there and not settled
-unfoldable pub open_in : ℕ → List ℕ → ℕ → Bool
-open_in count F a = ltb a count && eqb (get_or F a 0) 0
+unfoldable pub open_in : ℕ → List Bool → ℕ → Bool
+open_in count F a = ltb a count && not (get_or F a false)
 
 -- which blocks can take each step: a row for each word; the first rows are filled
 pub record Able (columns steps : ℕ) (needs sets : List ℕ) (used : ℕ) (T : List ℕ) : Type 0 where
@@ -83,6 +83,7 @@ wide_in used meets left j = all_lie used 0 (j * words) left meets
 
 -- the first places of a list are columns
 pub record Listed (few : ℕ) (N : List ℕ) : Type 0 where
+  pub fits : few ≤ limits.columns
   pub each : (i : ℕ) → i < few → get_or N i 0 < limits.columns
 
 -- they are columns of the model, and every other column of it is wide

@@ -1,20 +1,43 @@
 // Which blocks a step leads from, in words of 32 blocks.
 #![tactic(auto)]
 
-ghost use Rattle.std.specs.Prelude.{◌≡◌, cond, ◌*◌, ◌^◌, ◌<◌, ◌≤◌, length};
+ghost use Rattle.std.specs.Prelude.{◌≡◌, Bool, cond, List, ℕ, ◌*◌, ◌^◌, ◌<◌, ◌≤◌, length};
 ghost use Rattle.std.specs.Int.Bits.{bit_and};
 ghost use Rattle.task.specs.Sizes.{limits, goal_row};
 ghost use Rattle.blocks.specs.Flat.{past, row_of};
+ghost use Rattle.blocks.specs.Masks.{lands_in};
 ghost use Rattle.arcs.specs.Arcs.{fits_in};
-ghost use Rattle.arcs.specs.Words.{word, words, word_of, bit_at, need_in, meets_in, held_in, open_in, RowAble, Able, RowMet, Met, Opened, wide_in, Listed};
-ghost use Rattle.arcs.specs.Words.{Narrow, kept_part, kept_word};
+ghost use Rattle.arcs.specs.Words.{word, words, words_for, word_of, bit_at, need_in, meets_in, held_in, open_in, wide_in, kept_part, arc_word};
+ghost use Rattle.arcs.specs.Words.{RowAble, Able, RowMet, Met, Opened, Listed, Narrow};
 
-use task::{BlockSets, ColumnSets, Model, Tables};
+use cutting::Blocks;
+use masks::Tables;
+use task::{BlockSets, ColumnSets, Model};
 
 // Sets of blocks stand in words of 32 bits, a bit for each block.
 pub const WORD: usize = 32;
 
 pub const WORDS: usize = Model::BLOCKS / WORD;
+
+// What is looked up of the arcs, in words of blocks, so that a turn of the search sees at once which of 32 open blocks have an arc into its block,
+// the one settled last.
+#[derive(Drop)]
+pub struct Arcs {
+    // How many words hold the blocks.
+    pub used: usize,
+    // Which blocks can take each step: a row for each word.
+    pub able: [u32; WORDS * Model::STEPS],
+    // Which blocks meet a set, one for each column: a row for each column. The sets are held beside them.
+    pub meets: [u32; Model::COLUMNS * WORDS],
+    pub held: ColumnSets,
+    // The open blocks.
+    pub left: [u32; WORDS],
+    // The columns in which an open block does not meet the settled block, and how many they are: no heap, and the hottest loop goes over them.
+    pub narrow: [usize; Model::COLUMNS],
+    pub few: usize,
+    pub ghost within: { used ≤ words },
+    pub ghost listed: { Listed few narrow },
+}
 
 // The weight of a bit where a test passed, else 0.
 fn bit_if(t: bool, i: usize) -> u32
@@ -24,27 +47,15 @@ fn bit_if(t: bool, i: usize) -> u32
     if t { 1 << i } else { 0 }
 }
 
-// Whether a row of the tables lies in block a.
-pub fn fits_in(columns: usize, row: usize, a: usize, tables: &Tables, sets: &BlockSets) -> bool
-    requires { (columns ≤ limits.columns) × (row < goal_row) × (a < limits.blocks) }
-    ensures { result ≡ fits_in columns tables.now sets.now row a }
-{
-    let rs = row * Model::COLUMNS;
-    let ra = a * Model::COLUMNS;
-    masks::all_lie(columns, rs, ra, tables, sets)
-}
-
-// The blocks of word w that hold a need in column j, as a mask.
-fn need_word(w: usize, j: usize, need: u32, sets: &BlockSets) -> u32
-    requires { (w < words) × (j < limits.columns) }
-    ensures { result ≡ word_of (need_in sets.now need j) w }
+// The blocks of word w that pass a test, as a mask.
+fn word_where<F: Fn(usize) -> bool>(w: usize, test: F) -> u32
+    requires within { w < words }
+    requires callable { (a : ℕ) → a < limits.blocks → F.pre test a }
+    ensures { (passes : ℕ → Bool) → ((a : ℕ) (r : _) → a < limits.blocks → F.post test a r → r ≡ passes a) → result ≡ word_of passes w }
 {
     let mut v: u32 = 0;
-    let mut i: usize = 0;
-    while i < WORD {
-        let at = (w * WORD + i) * Model::COLUMNS + j;
-        v += bit_if(masks::lies(need, sets[at]), i);
-        i += 1;
+    for i in 0..WORD {
+        v += bit_if(test(w * WORD + i), i);
     }
     v
 }
@@ -54,83 +65,44 @@ fn with_need(v: u32, w: usize, j: usize, need: u32, sets: &BlockSets) -> u32
     requires { (w < words) × (j < limits.columns) }
     ensures { result ≡ bit_and v (word_of (need_in sets.now need j) w) }
 {
-    if v == 0 {
+    if v == 0 || need == 0 {
         return v;
     }
-    if need == 0 {
-        return v;
-    }
-    v & need_word(w, j, need, sets)
+    v & word_where(w, |a| masks::lies(need, sets[a * Model::COLUMNS + j]))
+}
+
+// Whether a row of the tables lies in block a.
+pub fn fits_in(tables: &Tables, row: usize, blocks: &Blocks, a: usize) -> bool
+    requires { (row < goal_row) × (a < limits.blocks) }
+    ensures { result ≡ fits_in tables.now.shape.columns tables.now.rows blocks.now.sets row a }
+{
+    let rs = row * Model::COLUMNS;
+    let ra = a * Model::COLUMNS;
+    masks::all_lie(tables.shape.columns, rs, ra, &tables.rows, &blocks.sets)
 }
 
 // The blocks of word w from which step s can be taken, as a mask.
-fn able_word(columns: usize, s: usize, w: usize, tables: &Tables, sets: &BlockSets) -> u32
-    requires { (columns ≤ limits.columns) × (s < limits.steps) × (w < words) }
-    ensures { result ≡ word_of (fits_in columns tables.now sets.now s) w }
+fn able_word(tables: &Tables, blocks: &Blocks, s: usize, w: usize) -> u32
+    requires { (s < limits.steps) × (w < words) }
+    ensures { result ≡ word_of (fits_in tables.now.shape.columns tables.now.rows blocks.now.sets s) w }
 {
     let rs = s * Model::COLUMNS;
-    let mut v: u32 = 4294967295;
-    let mut j: usize = 0;
-    while j < columns {
-        v = with_need(v, w, j, tables[rs + j], sets);
-        j += 1;
+    let mut v = u32::MAX;
+    for j in 0..tables.shape.columns {
+        v = with_need(v, w, j, tables.rows[rs + j], &blocks.sets);
     }
     v
 }
 
 // The row of word w in the table of blocks that can take a step.
-fn fill_row(
-    columns: usize,
-    steps: usize,
-    w: usize,
-    tables: &Tables,
-    sets: &BlockSets,
-    able: &mut [u32; WORDS * Model::STEPS],
-)
-    requires { (columns ≤ limits.columns) × (steps ≤ limits.steps) × (w < words) × (length able.old ≡ words * limits.steps) }
-    ensures fact_1 { RowAble columns steps tables.now sets.now w able.old able.new }
-    ensures fact_2 { length able.new ≡ words * limits.steps }
+fn fill_row(tables: &Tables, blocks: &Blocks, w: usize, able: &mut [u32; WORDS * Model::STEPS])
+    requires { w < words }
+    ensures { RowAble tables.now.shape.columns tables.now.shape.steps tables.now.rows blocks.now.sets w able.old able.new }
 {
     let row = w * Model::STEPS;
-    let mut s: usize = 0;
-    while s < steps {
-        able[row + s] = able_word(columns, s, w, tables, sets);
-        s += 1;
+    for s in 0..tables.shape.steps {
+        able[row + s] = able_word(tables, blocks, s, w);
     }
-}
-
-// The table of blocks that can take a step: a row for each word of blocks.
-pub fn fill_able(
-    columns: usize,
-    steps: usize,
-    used: usize,
-    tables: &Tables,
-    sets: &BlockSets,
-    able: &mut [u32; WORDS * Model::STEPS],
-)
-    requires { (columns ≤ limits.columns) × (steps ≤ limits.steps) × (used ≤ words) × (length able.old ≡ words * limits.steps) }
-    ensures { Able columns steps tables.now sets.now used able.new }
-{
-    let mut w: usize = 0;
-    while w < used {
-        fill_row(columns, steps, w, tables, sets, able);
-        w += 1;
-    }
-}
-
-// The blocks of word w that meet a set in column j, as a mask.
-fn meet_word(w: usize, j: usize, set: u32, sets: &BlockSets) -> u32
-    requires { (w < words) × (j < limits.columns) }
-    ensures { result ≡ word_of (meets_in sets.now set j) w }
-{
-    let mut v: u32 = 0;
-    let mut i: usize = 0;
-    while i < WORD {
-        let at = (w * WORD + i) * Model::COLUMNS + j;
-        v += bit_if(sets[at] & set != 0, i);
-        i += 1;
-    }
-    v
 }
 
 // The row of column j in the table of blocks that meet a set.
@@ -141,143 +113,13 @@ fn fill_column(
     sets: &BlockSets,
     meets: &mut [u32; Model::COLUMNS * WORDS],
 )
-    requires { (used ≤ words) × (j < limits.columns) × (length meets.old ≡ limits.columns * words) }
-    ensures fact_1 { RowMet used sets.now j set meets.old meets.new }
-    ensures fact_2 { length meets.new ≡ limits.columns * words }
-{
-    let row = j * WORDS;
-    let mut w: usize = 0;
-    while w < used {
-        meets[row + w] = meet_word(w, j, set, sets);
-        w += 1;
-    }
-}
-
-// The same, where the row is that of another set: nothing is done where that is the same.
-fn renew_column(
-    used: usize,
-    j: usize,
-    old: u32,
-    set: u32,
-    sets: &BlockSets,
-    meets: &mut [u32; Model::COLUMNS * WORDS],
-)
-    requires fact_1 { (used ≤ words) × (j < limits.columns) × (length meets.old ≡ limits.columns * words) }
-    requires fact_2 { RowMet used sets.now j old meets.old meets.old }
-    ensures fact_1 { RowMet used sets.now j set meets.old meets.new }
-    ensures fact_2 { length meets.new ≡ limits.columns * words }
-{
-    if old == set {
-        return;
-    }
-    fill_column(used, j, set, sets, meets);
-}
-
-// Which blocks meet block b in each column. The rows stand for the sets that are held.
-pub fn fill_meets(
-    columns: usize,
-    used: usize,
-    b: usize,
-    sets: &BlockSets,
-    held: &mut ColumnSets,
-    meets: &mut [u32; Model::COLUMNS * WORDS],
-)
-    requires fact_1 { (columns ≤ limits.columns) × (used ≤ words) × (b < limits.blocks) × (length held.old ≡ limits.columns)
-        × (length meets.old ≡ limits.columns * words) }
-    requires fact_2 { Met columns used sets.now (held_in held.old) meets.old }
-    ensures fact_1 { Met columns used sets.now (held_in held.new) meets.new }
-    ensures fact_2 { Met columns used sets.now (past sets.now (row_of b)) meets.new }
-    ensures fact_3 { (length held.new ≡ limits.columns) × (length meets.new ≡ limits.columns * words) }
-{
-    let rb = b * Model::COLUMNS;
-    let mut j: usize = 0;
-    while j < columns {
-        let set = sets[rb + j];
-        renew_column(used, j, held[j], set, sets, meets);
-        held[j] = set;
-        j += 1;
-    }
-}
-
-// Whether a block is there and not settled.
-#[tactic(auto, unfolding(crate::specs::Words::open_in))]
-fn is_open(count: usize, a: usize, done: &[u8; Model::BLOCKS]) -> bool
-    requires { a < limits.blocks }
-    ensures { result ≡ open_in count done.now a }
-{
-    if count <= a {
-        return false;
-    }
-    done[a] == 0
-}
-
-// The blocks of word w that are not settled, as a mask.
-fn open_word(count: usize, w: usize, done: &[u8; Model::BLOCKS]) -> u32
-    requires { w < words }
-    ensures { result ≡ word_of (open_in count done.now) w }
-{
-    let mut v: u32 = 0;
-    let mut i: usize = 0;
-    while i < WORD {
-        v += bit_if(is_open(count, w * WORD + i, done), i);
-        i += 1;
-    }
-    v
-}
-
-// The blocks that are not settled.
-pub fn fill_open(count: usize, used: usize, done: &[u8; Model::BLOCKS], left: &mut [u32; WORDS])
-    requires { (used ≤ words) × (length left.old ≡ words) }
-    ensures fact_1 { Opened used (open_in count done.now) left.new }
-    ensures fact_2 { length left.new ≡ words }
-{
-    let mut w: usize = 0;
-    while w < used {
-        left[w] = open_word(count, w, done);
-        w += 1;
-    }
-}
-
-// Whether every open block meets the settled block in column j.
-fn is_wide(
-    used: usize,
-    j: usize,
-    meets: &[u32; Model::COLUMNS * WORDS],
-    left: &[u32; WORDS],
-) -> bool
     requires { (used ≤ words) × (j < limits.columns) }
-    ensures { result ≡ wide_in used meets.now left.now j }
+    ensures { RowMet used sets.now j set meets.old meets.new }
 {
     let row = j * WORDS;
-    masks::all_lie(used, 0, row, left, meets)
-}
-
-fn one_unless(t: bool) -> usize
-    ensures { result ≡ cond t 0 1 }
-{
-    if t { 0 } else { 1 }
-}
-
-// The columns in which an open block does not meet the settled block, and how many they are. The other columns rule nothing out.
-pub fn fill_narrow(
-    columns: usize,
-    used: usize,
-    meets: &[u32; Model::COLUMNS * WORDS],
-    left: &[u32; WORDS],
-    narrow: &mut [usize; Model::COLUMNS],
-) -> usize
-    requires { (columns ≤ limits.columns) × (used ≤ words) × (length narrow.old ≡ limits.columns) }
-    ensures fact_1 { Narrow columns used meets.now left.now result narrow.new }
-    ensures fact_2 { length narrow.new ≡ limits.columns }
-{
-    let mut few: usize = 0;
-    let mut j: usize = 0;
-    while j < columns {
-        narrow[few] = j;
-        few += one_unless(is_wide(used, j, meets, left));
-        j += 1;
+    for w in 0..used {
+        meets[row + w] = word_where(w, |a| sets[a * Model::COLUMNS + j] & set != 0);
     }
-    few
 }
 
 // The blocks of a mask that meet the settled block in a column, if the step keeps it.
@@ -290,32 +132,125 @@ fn kept_part(v: u32, land: u32, meet: u32) -> u32
     v
 }
 
-// The blocks of a mask that meet the settled block in every narrow column that a step keeps, whose landing is that row of the tables.
-pub fn kept_word(
-    few: usize,
-    row: usize,
-    w: usize,
-    first: u32,
-    narrow: &[usize; Model::COLUMNS],
-    tables: &Tables,
-    meets: &[u32; Model::COLUMNS * WORDS],
-) -> u32
-    requires fact_1 { (few ≤ limits.columns) × (row < goal_row) × (w < words) }
-    requires fact_2 { Listed few narrow.now }
-    ensures { result ≡ kept_word narrow.now tables.now meets.now row w first few }
-{
-    let rs = row * Model::COLUMNS;
-    let mut v = first;
-    let mut i: usize = 0;
-    while i < few {
-        if v == 0 {
-            return 0;
+// A clause `rest` names the fields that a method leaves as they were and that a caller asks of.
+impl Arcs {
+    // Nothing is looked up yet.
+    pub fn new(count: usize) -> Self
+        requires { count ≤ limits.blocks }
+        ensures used { result.used ≡ words_for count }
+        ensures met { (columns : ℕ) (sets : List ℕ) → Met columns result.used sets (held_in result.held) result.meets }
+    {
+        Arcs {
+            used: (count + (WORD - 1)) / WORD,
+            able: [0; WORDS * Model::STEPS],
+            meets: [0; Model::COLUMNS * WORDS],
+            held: [0; Model::COLUMNS],
+            left: [0; WORDS],
+            narrow: [0; Model::COLUMNS],
+            few: 0,
         }
-        let j = narrow[i];
-        v = kept_part(v, tables[rs + j], meets[j * WORDS + w]);
-        i += 1;
     }
-    v
+
+    // Looks up which blocks can take each step.
+    pub fn fill_able(&mut self, tables: &Tables, blocks: &Blocks)
+        ensures able { Able tables.now.shape.columns tables.now.shape.steps tables.now.rows blocks.now.sets self.new.used self.new.able }
+        ensures rest { (self.new.used ≡ self.old.used) × (self.new.meets ≡ self.old.meets) × (self.new.held ≡ self.old.held)
+            × (self.new.left ≡ self.old.left) × (self.new.narrow ≡ self.old.narrow) × (self.new.few ≡ self.old.few) }
+    {
+        for w in 0..self.used {
+            fill_row(tables, blocks, w, &mut self.able);
+        }
+    }
+
+    // Looks up which blocks are open: there, and not settled.
+    fn fill_open(&mut self, count: usize, done: &[bool; Model::BLOCKS])
+        ensures opened { Opened self.new.used (open_in count done.now) self.new.left }
+        ensures rest { (self.new.used ≡ self.old.used) × (self.new.able ≡ self.old.able) × (self.new.meets ≡ self.old.meets) × (self.new.held ≡ self.old.held) }
+    {
+        for w in 0..self.used {
+            self.left[w] = word_where(w, |a| a < count && !done[a]);
+        }
+    }
+
+    // Looks up which blocks meet block b in each column. The rows stand for the sets that are held.
+    fn fill_meets(&mut self, tables: &Tables, blocks: &Blocks, b: usize)
+        requires block { b < limits.blocks }
+        requires held { Met tables.now.shape.columns self.old.used blocks.now.sets (held_in self.old.held) self.old.meets }
+        ensures held { Met tables.now.shape.columns self.new.used blocks.now.sets (held_in self.new.held) self.new.meets }
+        ensures met { Met tables.now.shape.columns self.new.used blocks.now.sets (past blocks.now.sets (row_of b)) self.new.meets }
+        ensures rest { (self.new.used ≡ self.old.used) × (self.new.able ≡ self.old.able) × (self.new.left ≡ self.old.left) }
+    {
+        let rb = b * Model::COLUMNS;
+        for j in 0..tables.shape.columns {
+            let set = blocks.sets[rb + j];
+            if self.held[j] != set {
+                fill_column(self.used, j, set, &blocks.sets, &mut self.meets);
+                self.held[j] = set;
+            }
+        }
+    }
+
+    // Whether every open block meets the settled block in column j.
+    fn is_wide(&self, j: usize) -> bool
+        requires { j < limits.columns }
+        ensures { result ≡ wide_in self.now.used self.now.meets self.now.left j }
+    {
+        let row = j * WORDS;
+        masks::all_lie(self.used, 0, row, &self.left, &self.meets)
+    }
+
+    // Looks up the columns in which an open block does not meet the settled block. The other columns rule nothing out.
+    fn fill_narrow(&mut self, columns: usize)
+        requires { columns ≤ limits.columns }
+        ensures narrow { Narrow columns self.new.used self.new.meets self.new.left self.new.few self.new.narrow }
+        ensures rest { (self.new.used ≡ self.old.used) × (self.new.able ≡ self.old.able) × (self.new.meets ≡ self.old.meets) × (self.new.held ≡ self.old.held)
+            × (self.new.left ≡ self.old.left) }
+    {
+        self.few = 0;
+        for j in 0..columns {
+            if !self.is_wide(j) {
+                self.narrow[self.few] = j;
+                self.few += 1;
+            }
+        }
+    }
+
+    // Turns to block b: looks up which blocks are open, which of them meet b, and in which columns one does not.
+    pub fn turn_to(
+        &mut self,
+        tables: &Tables,
+        blocks: &Blocks,
+        b: usize,
+        done: &[bool; Model::BLOCKS],
+    )
+        requires block { b < limits.blocks }
+        requires held { Met tables.now.shape.columns self.old.used blocks.now.sets (held_in self.old.held) self.old.meets }
+        ensures held { Met tables.now.shape.columns self.new.used blocks.now.sets (held_in self.new.held) self.new.meets }
+        ensures met { Met tables.now.shape.columns self.new.used blocks.now.sets (past blocks.now.sets (row_of b)) self.new.meets }
+        ensures opened { Opened self.new.used (open_in blocks.now.count done.now) self.new.left }
+        ensures narrow { Narrow tables.now.shape.columns self.new.used self.new.meets self.new.left self.new.few self.new.narrow }
+        ensures rest { (self.new.used ≡ self.old.used) × (self.new.able ≡ self.old.able) }
+    {
+        self.fill_open(blocks.count, done);
+        self.fill_meets(tables, blocks, b);
+        self.fill_narrow(tables.shape.columns);
+    }
+
+    // The open blocks of word w from which step s can be taken and that meet the settled block in every column that the step keeps, as a mask.
+    pub fn arc_word(&self, tables: &Tables, s: usize, w: usize) -> u32
+        requires { (s < limits.steps) × (w < words) }
+        ensures { result ≡ arc_word self.now.few self.now.narrow (lands_in tables.now.rows) self.now.able self.now.meets self.now.left s w }
+    {
+        let land = (Model::LANDS + s) * Model::COLUMNS;
+        let mut v = self.able[w * Model::STEPS + s] & self.left[w];
+        for j in &self.narrow[..self.few] {
+            if v == 0 {
+                return 0;
+            }
+            v = kept_part(v, tables.rows[land + j], self.meets[j * WORDS + w]);
+        }
+        v
+    }
 }
 
 // Whether bit i of a mask is 1.
@@ -323,5 +258,5 @@ pub fn has_bit(v: u32, i: usize) -> bool
     requires { i < word }
     ensures { result ≡ bit_at v i }
 {
-    v & bit_if(true, i) != 0
+    v & (1 << i) != 0
 }

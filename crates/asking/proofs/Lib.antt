@@ -3,3 +3,4 @@ pub mod AskingLaws
 pub mod ListLaws
 pub mod QuestionLaws
 pub mod StateLaws
+pub mod PartLaws

@@ -7,14 +7,13 @@ use Rattle.task.specs.Loops.{all, tab, over}
 use Rattle.task.specs.Sizes.{limits, tenth}
 use Rattle.task.specs.Task.{Task, State, column, position, column_count, size_of}
 use Rattle.fields.specs.Judging.{Check, check, refusal, unless_refused}
+use Rattle.fields.specs.Refusals.{Answered, Done, Refused}
 use Rattle.sheets.specs.LentTables.{too_few}
 use Rattle.sheets.specs.Holding.{unused, task_on}
 use Rattle.blocks.specs.declared.Cut.{Cut}
 use Rattle.blocks.specs.Flat.{followed}
 use Rattle.distances.specs.Distances.{estimate}
 use Rattle.cut_sheets.specs.CutSheet.{cut_sheet_checks, cuts_of}
-use Rattle.asking.specs.declared.Asked.{Asked}
-use Rattle.asking.specs.declared.Asked.TheVariants.{Estimates, Refused}
 
 -- state k of the bytes, for n columns: a byte for each
 unfoldable pub place_in : ℕ → List ℕ → ℕ → ℕ → Position
@@ -65,24 +64,25 @@ question_checks model s states estimates =
     cut_sheet_checks model s ++ (state_check (task_on model) states ∷ too_few (states_in (task_on model) states) estimates ∷ [])
 
 -- an answer's refusal number; 0 for none
-unfoldable pub number : Asked → ℕ
-number (Estimates n) = 0
+unfoldable pub number : Answered ℕ → ℕ
+number (Done n) = 0
 number (Refused n) = n
 
+-- how many estimates were written, or a refusal, and the list at exit
 pub record QuestionOutcome : Type 0 where
-  pub answer : Asked
+  pub answer : Answered ℕ
   pub estimates : List ℕ
 
-abbrev pub question_outcome : Asked → List ℕ → QuestionOutcome
+abbrev pub question_outcome : Answered ℕ → List ℕ → QuestionOutcome
 question_outcome a estimates = record { answer = a; estimates = estimates }
 
 -- a refusal returns only its number and changes nothing lent; else one estimate for each state, and places past the last one stay
 unfoldable pub asking : List ℕ → List ℕ → List ℕ → List ℕ → QuestionOutcome
 asking model s states estimates =
     unless_refused (refusal (question_checks model s states estimates))
-    (question_outcome (Estimates (states_in (task_on model) states)) (over (estimates_of (task_on model) (cuts_of s) states) estimates))
+    (question_outcome (Done (states_in (task_on model) states)) (over (estimates_of (task_on model) (cuts_of s) states) estimates))
     (λ n. question_outcome (Refused n) estimates)
 
 -- what `question` promises, whatever is passed: the answer and the list at exit
-abbrev pub Asks : (model s states estimates : List ℕ) → Asked → (estimates' : List ℕ) → Type 0
+abbrev pub Asks : (model s states estimates : List ℕ) → Answered ℕ → (estimates' : List ℕ) → Type 0
 Asks model s states estimates r estimates' = question_outcome r estimates' ≡ asking model s states estimates

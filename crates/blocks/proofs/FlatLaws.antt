@@ -1,26 +1,25 @@
 -- Laws of the flat arrays: what is written where, the first block, a cut made, and the block of a state found by following the cuts.
-use mathlib.Core.Path.{◌≡◌, refl, sym, ap, ◌∙◌, subst}
+use mathlib.Core.Path.{◌≡◌, refl, sym, ap, ◌∙◌}
 use mathlib.Core.Logic.{◌⊎◌, inl, inr, ⊎_elim, ◌≢◌}
 use mathlib.Core.Bool.{false}
 use mathlib.Core.List.{List, [], ◌∷◌, ◌++◌, append-nil}
-use Prim.Native.Nat.{ℕ, zero, suc, ◌+◌, ◌≤◌, ◌<◌}
+use Prim.Native.Nat.{ℕ, zero, suc, ◌+◌, ◌-◌, ◌≤◌, ◌<◌}
 use native.Mathlib.Nat.{not-suc-le-zero, zero-add}
 use native.Mathlib.Omega.{arith}
 use native.Mathlib.Numerals.{add-one}
-use lib.ListN.{length, get_or, set, drop, length-set, drop_of_length-le, get_or-append}
-use lib.Seq.{get_or-set_same, get_or-set_other, ext_get_or}
+use lib.ListN.{length, get_or, set, drop, length-set, length-drop, drop_of_length-le, get_or-append}
+use Rattle.std.specs.List.{copy_within}
+use Rattle.std.proofs.lemmas.List.Edits.{paste_none, paste_more}
+use lib.Seq.{paste, get_or-drop, get_or-set_same, get_or-set_other, ext_get_or}
 use Rattle.task.specs.declared.Column.{Column}
 use Rattle.task.specs.declared.Block.{Block}
 use Rattle.task.specs.Loops.{tab, over}
-use Rattle.task.specs.declared.Model.{Model}
 use Rattle.task.specs.Task.{Task, column, at, column_count, size_of, per_column}
-use Rattle.task.specs.Tables.{task_of}
-use Rattle.task.specs.Sizes.{limits, block_places}
+use Rattle.task.specs.Sizes.{block_places}
 use Rattle.task.proofs.TaskLaws.{per-length}
-use Rattle.task.proofs.TableLaws.{columns-of, size-of}
 use Rattle.task.proofs.LoopLaws.{over-length, tab-at, tab-length, tab-ext, below_suc}
 use Rattle.blocks.specs.declared.Cut.{Cut}
-use Rattle.blocks.specs.Blocks.{PositionSet, Sets, Blocks, every, common, without, set_at, block_at, with_set, cut_block, whole, cut_ok}
+use Rattle.blocks.specs.Blocks.{Sets, Blocks, every, common, without, set_at, block_at, with_set, cut_block, whole, cut_ok}
 use Rattle.blocks.specs.Flat.{past, row_of, sets_in, blocks_in, laid, cut_in, Cuttable}
 use Rattle.blocks.specs.Masks.{parts}
 use borrow.Author.Tests.{lt-ltb, le-ltb}
@@ -87,6 +86,17 @@ module _ (f : ℕ → ℕ) (place : ℕ) (l : List ℕ) where
       (λ (q : j < n). get_or-set_other (laid n f place l) (place + n) (place + j) (f n) 0 (λ z. omega arith) ∙ laid-at n j q (omega arith))
       (below_suc h)
 
+-- a row copied within the list
+laid-pasted : (l : List ℕ) (here there n : ℕ) → here + n ≤ length l → there + n ≤ length l → paste l there (drop here l) n ≡ laid n (past l here) there l
+unfolding laid past
+laid-pasted l here there zero h k = sym (paste_none l there (drop here l))
+laid-pasted l here there (suc n) h k =
+    rw (← laid-pasted l here there n (omega arith) (omega arith), ← get_or-drop here l n 0)
+    (rw add-one at (sym (paste_more l there (drop here l) n 0 (omega arith) (simp length-drop (omega arith)))))
+
+pub laid-copied : (l : List ℕ) (here there n : ℕ) → here + n ≤ length l → there + n ≤ length l → copy_within l here (here + n) there ≡ laid n (past l here) there l
+laid-copied l here there n h k = let e : here + n - here ≡ n = omega arith in rw e (laid-pasted l here there n h k)
+
 -- ---- the blocks that an array holds
 pub blocks-length : (columns count : ℕ) (sets : List ℕ) → length (blocks_in columns count sets) ≡ count
 unfolding blocks_in
@@ -101,14 +111,6 @@ unfolding set_at sets_in
 set-at columns sets a j h = tab-at columns (past sets (row_of a)) 0 j.0 h
 
 -- ---- block 0
-
--- what the first row holds
-unfoldable pub first_set : Model → ℕ → PositionSet
-first_set m j = every (get_or m.size j 0)
-
-pub first-whole : (m : Model) → tab m.columns (first_set m) ≡ whole (task_of m)
-unfolding whole per_column first_set
-first-whole m = rw (columns-of m) (tab-ext m.columns _ _ (λ j h. ap every (sym (size-of m (column j) h))))
 
 pub first-long : (t : Task) (l : List ℕ) → column_count t ≤ length l → length (over (whole t) l) ≡ length l
 unfolding whole per_column
@@ -127,18 +129,8 @@ first_made t sets =
     long : length (whole t) ≡ column_count t
     long = unfold whole in per-length t (λ j. every (size_of t j))
 
--- the same of a model, whatever stood there before
-module _ (m : Model) (old : List ℕ) {sets : List ℕ} (e : sets ≡ over (whole (task_of m)) old) where
-  pub first-stands : blocks_in m.columns 1 sets ≡ whole (task_of m) ∷ []
-  first-stands =
-      ap (blocks_in m.columns 1) e
-      ∙ subst (λ (k : ℕ). blocks_in k 1 (over (whole (task_of m)) old) ≡ whole (task_of m) ∷ []) (columns-of m) (first_made (task_of m) old)
-
-  pub first-fills : column_count (task_of m) ≤ limits.columns → length old ≡ block_places → length sets ≡ block_places
-  first-fills v l = ap length e ∙ first-long (task_of m) old (omega (arith, l, v)) ∙ l
-
 -- ---- a cut made in the array
-module _ (columns count : ℕ) (c : Cut) (sets : List ℕ) (can : Cuttable columns count c sets) where
+module _ (columns count : ℕ) (c : Cut) (sets : List ℕ) (can : Cuttable columns count c) (long : length sets ≡ block_places) where
   a : ℕ
   a = c.block.0
 
@@ -160,14 +152,11 @@ module _ (columns count : ℕ) (c : Cut) (sets : List ℕ) (can : Cuttable colum
 
   copy-long : length copy ≡ block_places
   unfolding copy
-  copy-long = laid-length (past sets (row_of a)) (row_of count) sets columns ∙ can.long
+  copy-long = laid-length (past sets (row_of a)) (row_of count) sets columns ∙ long
 
   new-long : length with-new ≡ block_places
   unfolding with-new
   new-long = length-set copy (row_of count + j) (common old c.wanted) ∙ copy-long
-
-  pub cut-in-length : length (cut_in columns count c sets) ≡ block_places
-  cut-in-length = rw is (length-set with-new (row_of a + j) (without old c.wanted) ∙ new-long)
 
   at_rest : past (cut_in columns count c sets) (row_of a) j ≡ without old c.wanted
   unfolding past a j

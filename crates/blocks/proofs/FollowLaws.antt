@@ -1,7 +1,7 @@
 -- The cuts of a list, made one after another in an array, and following them to the block of a state.
 use mathlib.Core.Path.{◌≡◌, refl, sym, ap, ◌∙◌}
 use mathlib.Core.Logic.{⊎_elim, ◌≢◌}
-use mathlib.Core.Bool.{Bool, true, false, cond}
+use mathlib.Core.Bool.{Bool, true, false, cond, and-false}
 use mathlib.Core.List.{List, [], ◌∷◌, ◌++◌}
 use mathlib.Core.Option.{some}
 use Prim.Native.Nat.{ℕ, zero, suc, ◌+◌, ◌*◌, ◌≤◌, ◌<◌}
@@ -13,14 +13,13 @@ use lib.Seq.{get_or-take}
 use borrow.Author.Tests.{eq-eqb, ne_eqb}
 use Rattle.task.specs.declared.Block.{Block}
 use Rattle.task.specs.Loops.{tab}
-use Rattle.task.specs.Task.{Task, State, Accepted, block, position, at, column_count, is_state}
+use Rattle.task.specs.Task.{Task, State, Accepted, column, block, position, at, column_count, is_state}
 use Rattle.task.proofs.LoopLaws.{and_left, and_right, tab-length, below_suc}
 use Rattle.blocks.specs.declared.Cut.{Cut}
-use Rattle.blocks.specs.Blocks.{Blocks, block_at, cut_block, in_block, whole, cut_ok, cuts_ok, cut_all, accepted, blocks_of, block_of}
-use Rattle.blocks.specs.Flat.{blocks_in, cut_in, Cuttable, cut_at, cuts_in, goes_on, followed}
+use Rattle.blocks.specs.Blocks.{Blocks, holds, block_at, cut_block, in_block, whole, cut_ok, cuts_ok, cut_all, accepted, blocks_of, block_of}
+use Rattle.blocks.specs.Flat.{cut_at, cuts_in, goes_on, followed, followed_by}
 use Rattle.blocks.proofs.LeadLaws.{in_within}
 use Rattle.blocks.proofs.PartLaws.{same_or_not, Parts, CutFits, Origin, origin, fits, cut_parts}
-use Rattle.blocks.proofs.FlatLaws.{cut-made}
 use Rattle.blocks.proofs.CutLaws.{whole_parts, accepted-parts, blocks_more, blocks-length, block-only}
 
 pub followed-none : (l : List ℕ) (x : State) → followed l x 0 ≡ 0
@@ -38,14 +37,29 @@ followed-most l x (suc i) = pick-most (goes_on (cut_at l i) x (followed l x i)) 
     pick-most false h = omega arith
 
 -- one cut more: the state goes on, or stays
-module _ (l : List ℕ) (x : State) (i a : ℕ) (g : Bool) (is : a ≡ followed l x i) (test : g ≡ goes_on (cut_at l i) x a) where
-  pub followed-on : g ≡ true → followed l x (i + 1) ≡ i + 1
-  unfolding followed
-  followed-on h = rw (add-one, ← is, ← test, h) refl
+module _ (has : ℕ → ℕ → Bool) (l : List ℕ) where
+  pub by-none : 0 ≡ followed_by has l 0
+  unfolding followed_by
+  by-none = refl
 
-  pub followed-stay : g ≡ false → followed l x (i + 1) ≡ a
-  unfolding followed
-  followed-stay h = rw (add-one, ← is, ← test, h) refl
+  module _ (i a : ℕ) (is : a ≡ followed_by has l i) where
+    pub by-on : get_or l (i * 3) 0 ≡ a → has (get_or l (i * 3 + 1) 0) (get_or l (i * 3 + 2) 0) ≡ true → i + 1 ≡ followed_by has l (i + 1)
+    unfolding followed_by
+    by-on e h = sym (rw (add-one, ← is, eq-eqb _ _ e, h) refl)
+
+    pub by-other : get_or l (i * 3) 0 ≢ a → a ≡ followed_by has l (i + 1)
+    unfolding followed_by
+    by-other n = sym (rw (add-one, ← is, ne_eqb _ _ n) refl)
+
+    pub by-unwanted : has (get_or l (i * 3 + 1) 0) (get_or l (i * 3 + 2) 0) ≡ false → a ≡ followed_by has l (i + 1)
+    unfolding followed_by
+    by-unwanted h = sym (rw (add-one, ← is, h, and-false) refl)
+
+-- of a state as the task has it
+pub by-state : (l : List ℕ) (x : State) (n : ℕ) → followed_by (λ j w. holds w (at x (column j))) l n ≡ followed l x n
+unfolding followed_by followed goes_on cut_at
+by-state l x zero = refl
+by-state l x (suc i) = rw (by-state l x i) refl
 
 -- a block of a cut, by where its parent is
 module _ (t : Task) (bs : Blocks) (c : Cut) (good : Parts t bs) (f : CutFits t bs c) (x : State) (is : is_state t x ≡ true) (a : Block) (made : a.0 < length bs) (inside : in_block t x (block_at bs a) ≡ true) where
@@ -98,11 +112,6 @@ cuts-more n l = rw add-one refl
 pub cuts-length : (n : ℕ) (l : List ℕ) → length (cuts_in n l) ≡ n
 unfolding cuts_in
 cuts-length n l = tab-length n (cut_at l)
-
--- an array that holds the blocks of some cuts holds those of one cut more after it is made
-pub cut-kept : (t : Task) (cs : List Cut) (c : Cut) (columns count : ℕ) (sets : List ℕ) → Cuttable columns count c sets
-    → blocks_in columns count sets ≡ blocks_of t cs → blocks_in columns (count + 1) (cut_in columns count c sets) ≡ blocks_of t (cs ++ (c ∷ []))
-cut-kept t cs c columns count sets can e = cut-made columns count c sets can ∙ rw e (sym (blocks_more t cs c))
 
 -- ---- the whole list
 module _ (t : Task) (v : Accepted t) where

@@ -1,4 +1,4 @@
--- The sets that stand for needs, landings and goals say what the marks say, and the tests on them are those of 01.
+-- The sets that stand for needs, landings and goals say what the model says, and the tests on them are those of 01.
 use mathlib.Core.Path.{◌≡◌, refl, sym, ap, ap₂, ◌∙◌, fun_ext}
 use mathlib.Core.Logic.{inl, ⊎_elim, ◌≢◌}
 use mathlib.Core.Bool.{true, false, ◌&&◌, and-true}
@@ -12,24 +12,23 @@ use lib.Pow.{pow_pos, pow_mono}
 use lib.Bits.{bit_and, and_high, and_zero_r}
 use lib.ListN.{length, get_or}
 use lib.Seq.{get_or-drop}
-use borrow.Author.Tests.{eq-eqb, ne_eqb, le-ltb, lt-ltb}
+use borrow.Author.Tests.{eq-eqb, ne_eqb, lt-ltb}
 use Rattle.task.specs.declared.Column.{Column}
 use Rattle.task.specs.declared.Position.{Position}
 use Rattle.task.specs.declared.Step.{Step}
 use Rattle.task.specs.declared.Block.{Block}
-use Rattle.task.specs.declared.Mark.{Mark}
+use Rattle.std.specs.Prelude as maybe
 use Rattle.task.specs.declared.Model.{Model}
-use Rattle.task.specs.declared.Shape.{Shape}
 use Rattle.task.specs.Loops.{all}
 use Rattle.task.specs.Sizes.{limits, step_places, table_places, lands_row, goal_row, start_row}
 use Rattle.task.specs.Task.{Task, Accepted, column, position, column_count, step_count, size_of, need_at, effect_at, goal_at, each_column, start}
-use Rattle.task.specs.Tables.{mark, marked, task_of}
+use Rattle.task.specs.Tables.{marked, task_of}
 use Rattle.task.proofs.LoopLaws.{all-ext}
-use Rattle.task.proofs.TableLaws.{columns-of, steps_of, start_of, goal-of, cost-of, need-of, effect_of, marked-none, marked-some}
+use Rattle.task.proofs.TableLaws.{columns-of, steps_of, start_of, goal-of, need-of, effect_of}
 use Rattle.task.proofs.TaskLaws.{start-at}
 use Rattle.blocks.specs.Blocks.{PositionSet, holds, only, common, is_empty, leads_at, goal_in, block_at, leads, goal_block}
 use Rattle.blocks.specs.Flat.{past, row_of, blocks_in, laid}
-use Rattle.blocks.specs.Masks.{wants, landing, lies, passes, mark_set, land_set, need_set, lands_set, goal_set, start_set, Told, rows_from, lands_in, goals_in, start_in, Stands, TablesOf, Tabled, Within, tables_of, all_lie, leads_by, goal_by}
+use Rattle.blocks.specs.Masks.{wants, landing, lies, passes, set_of, land_set, want_set, lands_set, start_set, Told, rows_from, lands_in, goals_in, start_in, Stands, tables_of, all_lie, leads_by, goal_by}
 use Rattle.blocks.proofs.PartLaws.{same_or_not}
 use Rattle.blocks.proofs.FlatLaws.{past-start, laid-length, laid-outside, laid-at, block-at, set-at}
 
@@ -85,40 +84,21 @@ unfolding wants goal_in
 lies-goal none a = lies-none a
 lies-goal (some p) a = lies-only p a
 
--- ---- marks
-pub mark-none : (k : Mark) → k.0 ≡ 0 → mark_set k ≡ 0
-unfolding mark_set
-mark-none k h = rw (eq-eqb k.0 0 h)
+-- ---- needs and goals as code has them
 
-pub mark-high : (k : Mark) → k.0 ≢ 0 → limits.positions < k.0 → mark_set k ≡ 0
-unfolding mark_set
-mark-high k n h = rw (ne_eqb k.0 0 n, lt-ltb limits.positions k.0 h)
-
-pub mark-low : (k : Mark) → k.0 ≢ 0 → k.0 ≤ limits.positions → mark_set k ≡ only (position (k.0 - 1))
-unfolding mark_set
-mark-low k n h = rw (ne_eqb k.0 0 n, le-ltb limits.positions k.0 h)
-
--- a mark that names a position of a column
-Good : Mark → Type 0
+-- one that names a position of a column
+Good : maybe.Option Position → Type 0
 Good k = (p : Position) → marked k ≡ some p → p.0 < limits.positions
 
-mark-wants : (k : Mark) → Good k → mark_set k ≡ wants (marked k)
-unfolding wants Good
-mark-wants k g =
-    ⊎_elim (λ (e : k.0 ≡ 0). mark-none k e ∙ sym (rw (marked-none k e)))
-    (λ (n : k.0 ≢ 0).
-    let s : marked k ≡ some (position (k.0 - 1)) = marked-some k (k.0 - 1) (omega arith) in
-    mark-low k n (omega (arith, g _ s)) ∙ sym (rw s))
-    (same_or_not k.0 0)
+set-wants : (k : maybe.Option Position) → Good k → set_of k ≡ wants (marked k)
+unfolding set_of wants marked Good
+set-wants maybe.None g = refl
+set-wants (maybe.Some p) g = rw (lt-ltb p.0 limits.positions (g p refl)) refl
 
-land-wants : (n e : Mark) → Good n → Good e → land_set n e ≡ landing (marked n) (marked e)
-unfolding land_set landing wants Good
-land-wants n e gn ge =
-    ⊎_elim (λ (q : e.0 ≡ 0). rw (eq-eqb e.0 0 q, marked-none e q) (mark-wants n gn))
-    (λ (q : e.0 ≢ 0).
-    let s : marked e ≡ some (position (e.0 - 1)) = marked-some e (e.0 - 1) (omega arith) in
-    rw (ne_eqb e.0 0 q, s) (mark-low e q (omega (arith, ge _ s))))
-    (same_or_not e.0 0)
+land-wants : (n e : maybe.Option Position) → Good n → Good e → land_set n e ≡ landing (marked n) (marked e)
+unfolding land_set landing wants marked
+land-wants n maybe.None gn ge = set-wants n gn
+land-wants n (maybe.Some e) gn ge = set-wants (maybe.Some e) ge
 
 -- ---- the tables in one array
 module _ (r : ℕ) (tables : List ℕ) where
@@ -151,26 +131,22 @@ lie-row n r k tables sets = rw (from_start r tables) refl
 -- ---- the tables of a model
 module _ (m : Model) (old : List ℕ) (long : length old ≡ table_places) where
   abbrev with-needs : List ℕ
-  with-needs = laid step_places (need_set m) 0 old
+  with-needs = laid step_places (want_set m.need) 0 old
 
   abbrev with-lands : List ℕ
   with-lands = laid step_places (lands_set m) (row_of lands_row) with-needs
 
   abbrev with-goal : List ℕ
-  with-goal = laid limits.columns (goal_set m) (row_of goal_row) with-lands
+  with-goal = laid limits.columns (want_set m.goal) (row_of goal_row) with-lands
 
   needs-long : length with-needs ≡ table_places
-  needs-long = laid-length (need_set m) 0 old step_places ∙ long
+  needs-long = laid-length (want_set m.need) 0 old step_places ∙ long
 
   lands-long : length with-lands ≡ table_places
   lands-long = laid-length (lands_set m) (row_of lands_row) with-needs step_places ∙ needs-long
 
   goal-long : length with-goal ≡ table_places
-  goal-long = laid-length (goal_set m) (row_of goal_row) with-lands limits.columns ∙ lands-long
-
-  pub tables-long : length (tables_of m old) ≡ table_places
-  unfolding tables_of
-  tables-long = laid-length (start_set m) (row_of start_row) with-goal m.columns ∙ goal-long
+  goal-long = laid-length (want_set m.goal) (row_of goal_row) with-lands limits.columns ∙ lands-long
 
   -- what stands before a row that is laid stays
   before-start : (i : ℕ) → i < row_of start_row → get_or (tables_of m old) i 0 ≡ get_or with-goal i 0
@@ -178,14 +154,14 @@ module _ (m : Model) (old : List ℕ) (long : length old ≡ table_places) where
   before-start i h = laid-outside (start_set m) (row_of start_row) with-goal m.columns i (inl h)
 
   before-goal : (i : ℕ) → i < row_of goal_row → get_or (tables_of m old) i 0 ≡ get_or with-lands i 0
-  before-goal i h = before-start i (omega arith) ∙ laid-outside (goal_set m) (row_of goal_row) with-lands limits.columns i (inl h)
+  before-goal i h = before-start i (omega arith) ∙ laid-outside (want_set m.goal) (row_of goal_row) with-lands limits.columns i (inl h)
 
-  need-there : (i : ℕ) → i < step_places → get_or (tables_of m old) i 0 ≡ need_set m i
+  need-there : (i : ℕ) → i < step_places → get_or (tables_of m old) i 0 ≡ want_set m.need i
   need-there i h =
       before-goal i (omega arith)
       ∙ laid-outside (lands_set m) (row_of lands_row) with-needs step_places i (inl h)
       ∙ ap (λ (k : ℕ). get_or with-needs k 0) (sym (zero-add i))
-      ∙ laid-at (need_set m) 0 old step_places i h (omega (arith, long))
+      ∙ laid-at (want_set m.need) 0 old step_places i h (omega (arith, long))
 
   land-there : (i : ℕ) → i < step_places → get_or (lands_in (tables_of m old)) i 0 ≡ lands_set m i
   unfolding rows_from
@@ -194,12 +170,12 @@ module _ (m : Model) (old : List ℕ) (long : length old ≡ table_places) where
       ∙ before-goal (row_of lands_row + i) (omega arith)
       ∙ laid-at (lands_set m) (row_of lands_row) with-needs step_places i h (omega (arith, needs-long))
 
-  goal-there : (j : ℕ) → j < limits.columns → get_or (goals_in (tables_of m old)) j 0 ≡ goal_set m j
+  goal-there : (j : ℕ) → j < limits.columns → get_or (goals_in (tables_of m old)) j 0 ≡ want_set m.goal j
   unfolding rows_from
   goal-there j h =
       get_or-drop (row_of goal_row) (tables_of m old) j 0
       ∙ before-start (row_of goal_row + j) (omega arith)
-      ∙ laid-at (goal_set m) (row_of goal_row) with-lands limits.columns j h (omega (arith, lands-long))
+      ∙ laid-at (want_set m.goal) (row_of goal_row) with-lands limits.columns j h (omega (arith, lands-long))
 
   start-there : (j : ℕ) → j < m.columns → m.columns ≤ limits.columns → get_or (start_in (tables_of m old)) j 0 ≡ start_set m j
   unfolding rows_from tables_of
@@ -208,18 +184,19 @@ module _ (m : Model) (old : List ℕ) (long : length old ≡ table_places) where
       ∙ laid-at (start_set m) (row_of start_row) with-goal m.columns j h (omega (arith, goal-long))
 
   module _ (v : Accepted (task_of m)) where
-    good : (o : Option Position) (k : Mark) (j : Column) → j.0 < column_count (task_of m) → o ≡ marked k → ((p : Position) → o ≡ some p → p.0 < size_of (task_of m) j) → Good k
+    good : (o : Option Position) (k : maybe.Option Position) (j : Column) → j.0 < column_count (task_of m) → o ≡ marked k → ((p : Position) → o ≡ some p → p.0 < size_of (task_of m) j) → Good k
     unfolding Good
     good o k j h e f = λ p q. omega (arith, f p (e ∙ q), (v.sizes j h).1)
 
-    told : Told (task_of m) (tables_of m old) (lands_in (tables_of m old)) (goals_in (tables_of m old))
-    unfolding need_set lands_set goal_set past
-    told =
+    -- the tables say what the task says
+    pub model-told : Told (task_of m) (tables_of m old) (lands_in (tables_of m old)) (goals_in (tables_of m old))
+    unfolding want_set lands_set past
+    model-told =
         record {
           need = λ s j hs hj.
               let n = needs s j hs hj in
               need-there (row_of s.0 + j.0) (inside s j hs hj)
-              ∙ mark-wants _ (good _ _ j hj n (λ p q. v.needs s j p hj q))
+              ∙ set-wants _ (good _ _ j hj n (λ p q. v.needs s j p hj q))
               ∙ ap wants (sym n);
           land = λ s j hs hj.
               let n = needs s j hs hj in
@@ -230,31 +207,25 @@ module _ (m : Model) (old : List ℕ) (long : length old ≡ table_places) where
           goal = λ j hj.
               let g = goal-of m j (rw columns-of at hj) in
               goal-there j.0 (omega (arith, v.columns.1))
-              ∙ mark-wants _ (good _ _ j hj g (λ p q. v.goals j p hj q))
+              ∙ set-wants _ (good _ _ j hj g (λ p q. v.goals j p hj q))
               ∙ ap wants (sym g);
         }
       where
-        needs : (s : Step) (j : Column) → s.0 < step_count (task_of m) → j.0 < column_count (task_of m) → need_at (task_of m) s j ≡ marked (get_or m.need (row_of s.0 + j.0) (mark 0))
+        needs : (s : Step) (j : Column) → s.0 < step_count (task_of m) → j.0 < column_count (task_of m) → need_at (task_of m) s j ≡ marked (get_or m.need (row_of s.0 + j.0) maybe.None)
         needs s j hs hj = need-of m s j (rw steps_of at hs) (rw columns-of at hj)
 
-        effects : (s : Step) (j : Column) → s.0 < step_count (task_of m) → j.0 < column_count (task_of m) → effect_at (task_of m) s j ≡ marked (get_or m.effect (row_of s.0 + j.0) (mark 0))
+        effects : (s : Step) (j : Column) → s.0 < step_count (task_of m) → j.0 < column_count (task_of m) → effect_at (task_of m) s j ≡ marked (get_or m.effect (row_of s.0 + j.0) maybe.None)
         effects s j hs hj = effect_of m s j (rw steps_of at hs) (rw columns-of at hj)
 
         inside : (s : Step) (j : Column) → s.0 < step_count (task_of m) → j.0 < column_count (task_of m) → row_of s.0 + j.0 < step_places
         inside s j hs hj = omega (arith, v.steps, v.columns.1)
 
-    -- they are those of its task, and the start stands as it is
-    tables : TablesOf (task_of m) (record { columns = m.columns; steps = m.steps }) (tables_of m old) m.cost
-    tables = record { wide = columns-of m; long = steps_of m; told = told; cost = λ s h. cost-of m s h }
-
-    stands : Stands (task_of m) (start (task_of m)) (start_in (tables_of m old))
+    -- and the start stands as it is
+    pub model-stands : Stands (task_of m) (start (task_of m)) (start_in (tables_of m old))
     unfolding Stands start_set
-    stands j h =
+    model-stands j h =
         let k : j.0 < m.columns = rw columns-of at h in
         start-there j.0 k (omega (arith, v.columns.1, columns-of m)) ∙ ap only (sym (start-at (task_of m) j h ∙ start_of m j k))
-
-    pub model-tabled : Tabled (task_of m) (record { columns = m.columns; steps = m.steps }) (tables_of m old) m.cost
-    model-tabled = record { task = v; own = tables; start = stands }
 
 -- the start's positions are positions
 pub start_small : (m : Model) → Accepted (task_of m) → (j : ℕ) → j < m.columns → (get_or m.start j (position 0)).0 < limits.positions
@@ -281,8 +252,3 @@ module _ (t : Task) (columns count : ℕ) (needs lands goals sets : List ℕ) (t
       (all-ext columns _ _ (λ j h.
       let k : j < column_count t = omega arith in
       rw (past-start goals j, told.goal (column j) k, set-at columns sets a.0 (column j) h) (lies-goal (goal_at t (column j)) _)))
-
--- the limits hold of the shape of a task's tables
-pub tabled-within : (t : Task) (f : Shape) (tables costs : List ℕ) → Tabled t f tables costs → Within f
-tabled-within t f tables costs g =
-    record { columns = omega (arith, g.own.wide, g.task.columns.1); steps = omega (arith, g.own.long, g.task.steps) }

@@ -1,7 +1,7 @@
 -- The blocks and the cuts as code has them: flat arrays of numbers. The row of block a begins at place `row_of a`, with a place for each column.
-use Rattle.std.specs.Prelude.{◌≡◌, Bool, ◌&&◌, cond, List, [], ◌∷◌, ℕ, zero, suc, ◌+◌, ◌*◌, ◌<◌, ◌≤◌, eqb, length, get_or, set}
+use Rattle.std.specs.Prelude.{Bool, ◌&&◌, cond, List, [], ◌∷◌, ℕ, zero, suc, ◌+◌, ◌*◌, ◌<◌, ◌≤◌, eqb, length, get_or, set}
 use Rattle.task.specs.Loops.{tab}
-use Rattle.task.specs.Sizes.{limits, block_places}
+use Rattle.task.specs.Sizes.{limits}
 use Rattle.task.specs.Task.{State, column, position, block, at}
 use Rattle.blocks.specs.declared.Cut.{Cut}
 use Rattle.blocks.specs.Blocks.{Sets, Blocks, holds, common, without}
@@ -35,12 +35,11 @@ cut_in columns count c sets =
     set (set copy (row_of count + c.column.0) (common old c.wanted)) (row_of c.block.0 + c.column.0) (without old c.wanted)
 
 -- a cut can be made in an array of so many blocks: there is room for one block more, and the block and the column are there
-pub record Cuttable (columns count : ℕ) (c : Cut) (sets : List ℕ) : Type 0 where
+pub record Cuttable (columns count : ℕ) (c : Cut) : Type 0 where
   pub wide : columns ≤ limits.columns
   pub room : count < limits.blocks
   pub made : c.block.0 < count
   pub there : c.column.0 < columns
-  pub long : length sets ≡ block_places
 
 abbrev pub cut : ℕ → ℕ → ℕ → Cut
 cut a j w = record { block = block a; column = column j; wanted = w }
@@ -73,3 +72,9 @@ goes_on c x a = eqb c.block.0 a && holds c.wanted (at x c.column)
 unfoldable pub followed : List ℕ → State → ℕ → ℕ
 followed l x zero = 0
 followed l x (suc i) = cond (goes_on (cut_at l i) x (followed l x i)) (suc i) (followed l x i)
+
+-- the same by what the state says, however it stands: whether it has a wanted position in a column
+unfoldable pub followed_by : (ℕ → ℕ → Bool) → List ℕ → ℕ → ℕ
+followed_by has l zero = 0
+followed_by has l (suc i) =
+    cond (eqb (get_or l (i * 3) 0) (followed_by has l i) && has (get_or l (i * 3 + 1) 0) (get_or l (i * 3 + 2) 0)) (suc i) (followed_by has l i)

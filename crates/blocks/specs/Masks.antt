@@ -1,16 +1,15 @@
 -- Needs, landings and goals as sets of positions, and the tests of 01 on such sets.
-use Rattle.std.specs.Prelude.{Bool, ◌&&◌, not, cond, List, ◌≡◌, ℕ, ◌-◌, ◌≤◌, ◌<◌, eqb, ltb, get_or, drop}
+use Rattle.std.specs.Prelude.{Bool, ◌&&◌, not, cond, List, ◌≡◌, ℕ, ◌-◌, ◌<◌, eqb, ltb, get_or, drop}
+use Rattle.std.specs.Prelude as maybe
+use Rattle.std.specs.Option.{option_or}
 use Rattle.std.proofs.Math.Option.{Option, none, some}
 use Rattle.task.specs.declared.Column.{Column}
 use Rattle.task.specs.declared.Position.{Position}
 use Rattle.task.specs.declared.Step.{Step}
-use Rattle.task.specs.declared.Mark.{Mark}
 use Rattle.task.specs.declared.Model.{Model}
-use Rattle.task.specs.declared.Shape.{Shape}
 use Rattle.task.specs.Loops.{all}
 use Rattle.task.specs.Sizes.{limits, step_places, lands_row, goal_row, start_row}
-use Rattle.task.specs.Task.{Task, State, Accepted, start, position, at, column_count, step_count, cost_of, need_at, effect_at, goal_at}
-use Rattle.task.specs.Tables.{mark}
+use Rattle.task.specs.Task.{Task, State, position, at, column_count, step_count, cost_of, need_at, effect_at, goal_at}
 use Rattle.blocks.specs.Blocks.{PositionSet, only, common, without, is_empty}
 use Rattle.blocks.specs.Flat.{past, row_of, laid}
 
@@ -42,22 +41,21 @@ parts wanted old = not (is_empty wanted) && is_empty (without wanted old) && not
 
 -- ---- the tables of a model
 
--- the position of a mark as a set; a mark above the most positions names none
-unfoldable pub mark_set : Mark → PositionSet
-mark_set m = cond (eqb m.0 0) 0 (cond (ltb limits.positions m.0) 0 (only (position (m.0 - 1))))
+-- a need or a goal as code has it, as a set; a position that no column has wants nothing
+unfoldable pub set_of : maybe.Option Position → PositionSet
+set_of maybe.None = 0
+set_of (maybe.Some p) = cond (ltb p.0 limits.positions) (only p) 0
 
-unfoldable pub land_set : Mark → Mark → PositionSet
-land_set n e = cond (eqb e.0 0) (mark_set n) (mark_set e)
+unfoldable pub land_set : maybe.Option Position → maybe.Option Position → PositionSet
+land_set n e = set_of (option_or e n)
+
+-- what a list of needs or a goal wants, place by place
+unfoldable pub want_set : List (maybe.Option Position) → ℕ → PositionSet
+want_set l i = set_of (get_or l i maybe.None)
 
 module _ (m : Model) where
-  unfoldable pub need_set : ℕ → PositionSet
-  need_set i = mark_set (get_or m.need i (mark 0))
-
   unfoldable pub lands_set : ℕ → PositionSet
-  lands_set i = land_set (get_or m.need i (mark 0)) (get_or m.effect i (mark 0))
-
-  unfoldable pub goal_set : ℕ → PositionSet
-  goal_set j = mark_set (get_or m.goal j (mark 0))
+  lands_set i = land_set (get_or m.need i maybe.None) (get_or m.effect i maybe.None)
 
   unfoldable pub start_set : ℕ → PositionSet
   start_set j = only (get_or m.start j (position 0))
@@ -94,26 +92,11 @@ pub record Tables (t : Task) (columns steps : ℕ) (needs lands goals costs : Li
   pub told : Told t needs lands goals
   pub cost : (s : Step) → s.0 < steps → cost_of t s ≡ get_or costs s.0 0
 
--- the same where they stand in one array
-abbrev pub TablesOf : Task → Shape → (tables costs : List ℕ) → Type 0
-TablesOf t f tables costs = Tables t f.columns f.steps tables (lands_in tables) (goals_in tables) costs
-
--- and the task is accepted, with its start as it stands
-pub record Tabled (t : Task) (f : Shape) (tables costs : List ℕ) : Type 0 where
-  pub task : Accepted t
-  pub own : TablesOf t f tables costs
-  pub start : Stands t (start t) (start_in tables)
-
--- a shape within the limits, so that every row is there
-pub record Within (f : Shape) : Type 0 where
-  pub columns : f.columns ≤ limits.columns
-  pub steps : f.steps ≤ limits.steps
-
 -- a model's tables, laid over what the array held
 unfoldable pub tables_of : Model → List ℕ → List ℕ
 tables_of m old =
     laid m.columns (start_set m) (row_of start_row)
-    (laid limits.columns (goal_set m) (row_of goal_row) (laid step_places (lands_set m) (row_of lands_row) (laid step_places (need_set m) 0 old)))
+    (laid limits.columns (want_set m.goal) (row_of goal_row) (laid step_places (lands_set m) (row_of lands_row) (laid step_places (want_set m.need) 0 old)))
 
 -- ---- the tests on the tables
 

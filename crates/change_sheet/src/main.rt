@@ -21,22 +21,21 @@ fn read_full<R: Read>(input: &mut R, buf: &mut [u8]) -> usize
     let mut done = 0;
     while done < buf.len() {
         match input.read(&mut buf[done..]) {
-            Ok(0) => break,
+            Ok(0) | Err(_) => break,
             Ok(n) => done += n,
-            Err(_) => break,
         }
     }
     done
 }
 
-// Writes all of `bytes`, or stops at the first write that takes nothing or fails: what was written before it stays.
+// Writes all of `bytes`, or stops at the first write that takes nothing or fails: what was written before it stays. Unlike std's, it does not go on after an
+// interruption.
 fn write_all<W: Write>(output: &mut W, bytes: &[u8]) {
     let mut done = 0;
     while done < bytes.len() {
         match output.write(&bytes[done..]) {
-            Ok(0) => break,
+            Ok(0) | Err(_) => break,
             Ok(n) => done += n,
-            Err(_) => break,
         }
     }
 }

@@ -8,6 +8,7 @@ use borrow.Author.Tests.{eq-eqb, ltb-true, le-ltb}
 use Rattle.task.specs.Loops.{over}
 use Rattle.task.specs.Task.{Accepted}
 use Rattle.fields.specs.Judging.{judged, refusal, each}
+use Rattle.fields.specs.Refusals.{Done}
 use Rattle.fields.proofs.JudgingLaws.{each-ext, refusal-append, go, passes, no-checks}
 use Rattle.fields.proofs.PutLaws.{Bytes}
 use Rattle.sheets.specs.ModelSheet.{judge_sheet}
@@ -18,9 +19,7 @@ use Rattle.cut_sheets.specs.CutPart.{CutFields, cut_entries, cut_bytes, count_of
 use Rattle.cut_sheets.specs.CutSheet.{tail_of, cut_sheet_checks, cut_values, cut_list, rebuild_checks, cut_lent, of_cuts, cut_sheet_of, given_checks, write_cuts_checks}
 use Rattle.cut_sheets.proofs.CutPartLaws.{PartFine, part-fine}
 use Rattle.cut_sheets.proofs.CutSheetLaws as sheet
-use Rattle.cut_reading.specs.declared.CutsRebuilt.TheVariants.{Cuts}
 use Rattle.cut_reading.specs.Rebuilding.{rebuild_outcome, rebuilding}
-use Rattle.cut_writing.specs.declared.CutsWritten.TheVariants.{Sheet}
 use Rattle.cut_writing.specs.CutWriting.{write_cuts_outcome as written, writing_cuts}
 
 -- ---- written and rebuilt
@@ -67,9 +66,9 @@ module _ (model : List ℕ) (count : ℕ) (cuts : List ℕ) (ok : judge_sheet mo
         ∙ sym (passes 8 _ [] (le-ltb (length c₀) (count_of (tail_of S) * 3) (rw count-found h)) no-checks)
 
     -- written and rebuilt gives the same cuts, in any list that is long enough
-    pub cuts_back : (c₀ : List ℕ) → count * 3 ≤ length c₀ → rebuilding model S c₀ ≡ rebuild_outcome (Cuts count) (over (take (count * 3) cuts) c₀)
+    pub cuts_back : (c₀ : List ℕ) → count * 3 ≤ length c₀ → rebuilding model S c₀ ≡ rebuild_outcome (Done count) (over (take (count * 3) cuts) c₀)
     unfolding rebuilding
-    cuts_back c₀ h = simp (eq-eqb (refusal (rebuild_checks model S c₀)) 0 (no-refusal c₀ h)) (λ k. rebuild_outcome (Cuts (count-found k)) (over (list-found k) c₀))
+    cuts_back c₀ h = simp (eq-eqb (refusal (rebuild_checks model S c₀)) 0 (no-refusal c₀ h)) (λ k. rebuild_outcome (Done (count-found k)) (over (list-found k) c₀))
 
 -- ---- rebuilt into any list, and written again
 module _ (model s : List ℕ) (ok : refusal (cut_sheet_checks model s) ≡ 0) (bs : Bytes s) (c₀ : List ℕ) where
@@ -94,6 +93,6 @@ module _ (model s : List ℕ) (ok : refusal (cut_sheet_checks model s) ≡ 0) (b
         refusal-append (given_checks model K L) _ ∙ go (refusal (given_checks model K L)) _ given-fine
         ∙ sym (passes 8 _ [] (le-ltb (length sheet₀) (length model + cut_bytes K) (subst (λ (x : ℕ). x ≤ length sheet₀) (sheet.sheet-length model s ok) h)) no-checks)
 
-    pub bytes_back : writing_cuts model K L sheet₀ ≡ written (Sheet (length s)) (over s sheet₀)
+    pub bytes_back : writing_cuts model K L sheet₀ ≡ written (Done (length s)) (over s sheet₀)
     unfolding writing_cuts
-    bytes_back = simp (eq-eqb (refusal (write_cuts_checks model K L sheet₀)) 0 no-write-refusal) (λ k. written (Sheet (sym (sheet.sheet-length model s ok) k)) (over (same-sheet k) sheet₀))
+    bytes_back = simp (eq-eqb (refusal (write_cuts_checks model K L sheet₀)) 0 no-write-refusal) (λ k. written (Done (sym (sheet.sheet-length model s ok) k)) (over (same-sheet k) sheet₀))

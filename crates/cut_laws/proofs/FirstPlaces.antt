@@ -9,6 +9,7 @@ use lib.Dec.{eqb}
 use lib.ListN.{length, take}
 use Rattle.task.specs.Loops.{over}
 use Rattle.fields.specs.Judging.{Entry, checks_of, refusal}
+use Rattle.fields.specs.Refusals.{Done, Refused}
 use Rattle.fields.specs.Packing.{sheet_of}
 use Rattle.sheets.specs.ModelSheet.{sheet_checks}
 use Rattle.sheets.specs.Holding.{task_on}
@@ -17,7 +18,6 @@ use Rattle.fields.proofs.PlaceLaws.{same_place}
 use Rattle.cut_sheets.specs.CutPart.{cut_entries, cut_bytes}
 use Rattle.cut_sheets.specs.CutSheet.{cut_lent, of_cuts, cut_sheet_of, given_checks, write_cuts_checks}
 use Rattle.cut_sheets.proofs.CutPartLaws.{SameCuts, same-fields}
-use Rattle.cut_writing.specs.declared.CutsWritten.TheVariants.{Sheet, Refused}
 use Rattle.cut_writing.specs.CutWriting.{write_cuts_outcome, writing_cuts}
 
 module _ (model : List ℕ) (count : ℕ) (cuts cuts' : List ℕ) (same : take (count * 3) cuts ≡ take (count * 3) cuts') where
@@ -44,4 +44,4 @@ module _ (model : List ℕ) (count : ℕ) (cuts cuts' : List ℕ) (same : take (
   first-places sheet =
       ap (λ (es : List Entry).
       let r = refusal ((sheet_checks model ++ checks_of es) ++ (too_few (length model + cut_bytes count) sheet ∷ [])) in
-      cond (eqb r 0) (write_cuts_outcome (Sheet (length model + cut_bytes count)) (over (model ++ sheet_of es) sheet)) (write_cuts_outcome (Refused r) sheet)) same_entries
+      cond (eqb r 0) (write_cuts_outcome (Done (length model + cut_bytes count)) (over (model ++ sheet_of es) sheet)) (write_cuts_outcome (Refused r) sheet)) same_entries

@@ -7,6 +7,7 @@ use lib.ListN.{length}
 use Rattle.task.specs.Loops.{over}
 use Rattle.task.specs.Task.{Task}
 use Rattle.fields.specs.Judging.{checks_of}
+use Rattle.fields.specs.Refusals.{Done, Refused}
 use Rattle.fields.proofs.ExactLaws.{has, Numbers, fields-append, fields-each, numbers-append, Judged, judges}
 use Rattle.sheets.specs.ModelSheet.{fill_part, of_sheet, entries, sheet_checks}
 use Rattle.sheets.specs.Holding.{task_on}
@@ -14,9 +15,7 @@ use Rattle.sheet_laws.proofs.Refusals.{numbers, model-numbers, sheet-numbers}
 use Rattle.cut_sheets.specs.CutPart.{CutSource, cut_header, cut_part, cut_fields, cut_entries, of_cut_part, count_of, cut_bytes, cut_checks}
 use Rattle.cut_sheets.specs.CutSheet.{tail_of, cut_sheet_checks, cut_list, rebuild_checks, of_cuts, cut_sheet_of, given_checks, write_cuts_checks}
 use Rattle.cut_sheets.proofs.CutPartLaws.{H, C, F}
-use Rattle.cut_reading.specs.declared.CutsRebuilt.TheVariants.{Cuts, Refused}
 use Rattle.cut_reading.specs.Rebuilding.{RebuildOutcome, rebuild_outcome, number, rebuilding}
-use Rattle.cut_writing.specs.declared.CutsWritten.TheVariants.{Sheet, Refused as NotWritten}
 use Rattle.cut_writing.specs.CutWriting.{WriteCutsOutcome as Written, write_cuts_outcome as written, number as write_number, writing_cuts}
 
 -- which numbers the fields of a cut part can get; both sheets; whoever rebuilds cuts, and whoever writes them
@@ -54,7 +53,7 @@ module _ (model s cuts : List ℕ) where
   unfolding rebuild_checks
   rebuild-numbers = numbers-append (has rebuild_numbers) sheets_numbers refl (cut_sheet_checks model s) _ (sheets-numbers model s) refl
 
-  pub rebuilder : Judged (λ (o : RebuildOutcome). number o.answer) (λ n. rebuild_outcome (Refused n) cuts) (rebuild_checks model s cuts) (rebuild_outcome (Cuts (count_of (tail_of s))) (over (cut_list s) cuts)) (rebuilding model s cuts)
+  pub rebuilder : Judged (λ (o : RebuildOutcome). number o.answer) (λ n. rebuild_outcome (Refused n) cuts) (rebuild_checks model s cuts) (rebuild_outcome (Done (count_of (tail_of s))) (over (cut_list s) cuts)) (rebuilding model s cuts)
   unfolding rebuilding number
   rebuilder = judges _ _ rebuild_numbers refl (rebuild_checks model s cuts) rebuild-numbers _ refl refl
 
@@ -69,7 +68,7 @@ module _ (model : List ℕ) (count : ℕ) (cuts sheet : List ℕ) where
       numbers-append q cut_numbers refl (given_checks model count cuts) _
       (numbers-append q numbers refl (sheet_checks model) part (sheet-numbers model) (subst (Numbers q) (append-nil part) n)) refl
 
-  pub writer : Judged (λ (o : Written). write_number o.answer) (λ n. written (NotWritten n) sheet) (write_cuts_checks model count cuts sheet)
-      (written (Sheet (length model + cut_bytes count)) (over (cut_sheet_of model count cuts) sheet)) (writing_cuts model count cuts sheet)
+  pub writer : Judged (λ (o : Written). write_number o.answer) (λ n. written (Refused n) sheet) (write_cuts_checks model count cuts sheet)
+      (written (Done (length model + cut_bytes count)) (over (cut_sheet_of model count cuts) sheet)) (writing_cuts model count cuts sheet)
   unfolding writing_cuts write_number
   writer = judges _ _ cut_numbers refl (write_cuts_checks model count cuts sheet) write-numbers _ refl refl

@@ -1,11 +1,12 @@
 -- 01, "Sheets" and "Refusal numbers", of the cut part: its fields in sheet order, how each is judged, and where each stands.
-use Rattle.std.specs.Prelude.{ℕ, ◌+◌, ◌*◌, not, List, [], ◌∷◌, ◌++◌}
-use Rattle.task.specs.Sizes.{most_steps}
+use Rattle.std.specs.Prelude.{ℕ, ◌+◌, ◌*◌, not, ◌&&◌, cond, ltb, List, [], ◌∷◌, ◌++◌}
+use Rattle.task.specs.Sizes.{limits, most_steps}
 use Rattle.task.specs.Loops.{tab}
 use Rattle.task.specs.Task.{Task}
 use Rattle.fields.specs.Bits.{field_at}
 use Rattle.fields.specs.Judging.{Field, Entry, Check, on_sheet, entry, free, outside, follows, checks_of, refusal, judged, each}
 use Rattle.fields.specs.Packing.{bytes_for}
+use Rattle.fields.specs.Refusals.{Answered, Done, Refused}
 use Rattle.blocks.specs.declared.Cut.{Cut}
 use Rattle.blocks.specs.Blocks.{cut_ok, blocks_of}
 use Rattle.blocks.specs.Flat.{cut}
@@ -27,6 +28,13 @@ pub record CutSource : Type 0 where
 -- the cut that three fields name, and the first i cuts
 unfoldable pub cut_named : CutFields → Cut
 cut_named f = cut f.block.value f.column.value f.wanted.value
+
+-- a cut, read from its fields: 1 where one of them is not there, 9 where a number has no room in its field and so names nothing
+unfoldable pub cut_read : CutFields → Answered Cut
+cut_read f =
+    cond (f.block.here && f.column.here && f.wanted.here)
+    (cond (ltb f.block.value limits.blocks && ltb f.column.value limits.columns) (Done (cut_named f)) (Refused 9))
+    (Refused 1)
 
 unfoldable pub cuts_named : (ℕ → CutFields) → ℕ → List Cut
 cuts_named c i = tab i (λ k. cut_named (c k))

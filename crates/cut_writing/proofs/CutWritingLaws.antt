@@ -5,42 +5,30 @@ use mathlib.Core.Path.{◌≡◌, refl, sym, ap, ap₂, ◌∙◌}
 use mathlib.Core.List.{List, [], ◌∷◌, ◌++◌, append_assoc, append-nil}
 use lib.ListN.{length, get_or, take, drop, length-append, length-drop, drop_of_length-le}
 use lib.Dec.{ltb}
-use lib.Seq.{ext_get_or, get_or-drop, take_all, drop_at, take_at, drop-drop}
+use lib.Seq.{get_or-drop, take_all, drop_at, take_at, drop-drop}
 use borrow.Author.Tests.{ltb-true, lt-ltb, le-ltb, eq-eqb}
 use borrow.Rule.Slice.PartMut.{put_mid}
 use Rattle.task.specs.Sizes.{limits, most_steps}
-use Rattle.task.specs.Loops.{tab, over}
+use Rattle.task.specs.Loops.{over}
 use Rattle.task.specs.Task.{Task, Accepted}
-use Rattle.task.proofs.LoopLaws.{tab-at, tab-length}
 use Rattle.fields.specs.Bits.{put_field}
 use Rattle.fields.specs.Judging.{Entry, given, entry, outside, refusal, judged, each}
 use Rattle.fields.proofs.JudgingLaws.{go, stop, neither, stopped, went, good, spoilt, above-high, inside, refusal-append, applies, passes, no-checks, refused-is}
+use Rattle.fields.specs.Refusals.{Done, Refused}
 use Rattle.fields.specs.Packing.{packed, sheet_of}
 use Rattle.fields.proofs.PutLaws.{Bytes}
 use Rattle.fields.proofs.PackingLaws.{packed-append, packed-over}
+use Rattle.cutting.specs.declared.Blocks.{Blocks}
 use Rattle.sheets.specs.ModelSheet.{fill_bits, fill_part, sheet_checks, judge_sheet}
-use Rattle.unpack.specs.declared.Read.{Read}
-use Rattle.unpack.specs.Unpacking.{unpacked}
-use Rattle.unpack.proofs.GivenLaws.{read-code, ok}
 use Rattle.cut_sheets.specs.CutPart.{CutSource, cut_header, cut_part, cut_bits, cut_bytes, cut_fields, cut_entries}
 use Rattle.cut_sheets.specs.CutSheet.{cut_lent, of_cuts, cut_sheet_of, given_checks, write_cuts_checks}
 use Rattle.sheets.specs.LentTables.{too_few}
 use Rattle.sheets.specs.Holding.{task_on}
 use Rattle.sheets.proofs.HeldTaskLaws.{accepted-task}
-use Rattle.cut_writing.specs.declared.CutsWritten.TheVariants.{Sheet, Refused}
 use Rattle.cut_writing.specs.CutWriting.{write_cuts_outcome, writing_cuts, WritesCuts}
 use Rattle.cut_sheets.specs.Judged.{CutsJudged}
 use Rattle.cut_sheets.proofs.CutPartLaws.{H, C, F, at-cuts, at_fill, part-fine, part-bits, cut-whole}
 use Rattle.cut_sheets.proofs.CutRoundLaws as round
-
--- ---- bytes put at the front
-
--- the first n of a list, place by place
-abbrev pub firsts : List ℕ → ℕ → ℕ
-firsts l k = get_or l k 0
-
-pub all_firsts : (l : List ℕ) → tab (length l) (firsts l) ≡ l
-all_firsts l = ext_get_or 0 (tab (length l) (firsts l)) l (tab-length (length l) (firsts l)) (λ i h. tab-at (length l) (firsts l) 0 i (omega (arith, tab-length (length l) (firsts l))))
 
 -- ---- the cut part put, field by field
 module _ (t : Task) (count : ℕ) (cuts : List ℕ) where
@@ -91,7 +79,7 @@ module _ (t : Task) (count : ℕ) (cuts : List ℕ) where
   fill-good = good (fill_bits (cut_bits count)) (given 0) 6 (outside 0 0 0) refl refl
 
   -- else the cuts decide
-  pub lent-judged : {r columns : ℕ} {exit : List ℕ} → count < limits.blocks → CutsJudged t (cut_lent cuts) columns count r exit → r ≡ judged (cut_entries t (of_cuts count cuts))
+  pub lent-judged : {r columns : ℕ} {exit : Blocks} → count < limits.blocks → CutsJudged t (cut_lent cuts) columns count r exit → r ≡ judged (cut_entries t (of_cuts count cuts))
   unfolding of_cuts
   lent-judged {r} h j = past-count h (split r j.refusal)
     where
@@ -114,20 +102,21 @@ module _ (model : List ℕ) (count : ℕ) (cuts : List ℕ) where
   abbrev t : Task
   t = task_on model
 
-  pub given-model : {r : Read} → r ≡ unpacked model → (r.code ≡ 0 → ⊥) → r.code ≡ refusal (given_checks model count cuts)
+  pub given-model : {r : ℕ} → r ≡ judge_sheet model → (r ≡ 0 → ⊥) → r ≡ refusal (given_checks model count cuts)
   unfolding given_checks judge_sheet
-  given-model e z =
-      let q = read-code model e in
-      q ∙ sym (refusal-append (sheet_checks model) _ ∙ stop (refusal (sheet_checks model)) _ (λ y. z (q ∙ y)))
+  given-model e z = e ∙ sym (refusal-append (sheet_checks model) _ ∙ stop (refusal (sheet_checks model)) _ (λ y. z (e ∙ y)))
 
-  pub given-cuts : {r : Read} {x : ℕ} → r ≡ unpacked model → r.code ≡ 0 → x ≡ judged (cut_entries t (of_cuts count cuts)) → x ≡ refusal (given_checks model count cuts)
+  pub given-cuts : {x : ℕ} → judge_sheet model ≡ 0 → x ≡ judged (cut_entries t (of_cuts count cuts)) → x ≡ refusal (given_checks model count cuts)
   unfolding given_checks judge_sheet judged
-  given-cuts e z x = x ∙ sym (refusal-append (sheet_checks model) _ ∙ go (refusal (sheet_checks model)) _ (ok model e z))
+  given-cuts ok x = x ∙ sym (refusal-append (sheet_checks model) _ ∙ go (refusal (sheet_checks model)) _ ok)
 
   -- what no refusal says
   pub given-ok : refusal (given_checks model count cuts) ≡ 0 → (judge_sheet model ≡ 0) × (judged (cut_entries t (of_cuts count cuts)) ≡ 0)
   unfolding given_checks judge_sheet judged
   given-ok h = neither (refusal (sheet_checks model)) _ (sym (refusal-append (sheet_checks model) _) ∙ h)
+
+  pub places-given : 0 ≡ refusal (given_checks model count cuts) → (count < limits.blocks) × (count * 3 ≤ length cuts)
+  places-given e = given-places t count cuts (given-ok (sym e)).1
 
 -- ---- a tail that is lent and comes back
 module _ (m d : List ℕ) where
@@ -164,10 +153,10 @@ module _ (model : List ℕ) (count : ℕ) (cuts sheet : List ℕ) where
   given-refused e z =
       refusing (e ∙ sym (refusal-append (given_checks model count cuts) _ ∙ stop (refusal (given_checks model count cuts)) _ (λ q. z (e ∙ q)))) z
 
-  module _ {r : ℕ} (e : r ≡ refusal (given_checks model count cuts)) (z : r ≡ 0) where
+  module _ (e : 0 ≡ refusal (given_checks model count cuts)) where
     places : {x : ℕ} → x ≡ refusal (too_few bytes sheet ∷ []) → x ≡ refusal (write_cuts_checks model count cuts sheet)
     unfolding write_cuts_checks
-    places q = q ∙ sym (refusal-append (given_checks model count cuts) _ ∙ go (refusal (given_checks model count cuts)) _ (sym e ∙ z))
+    places q = q ∙ sym (refusal-append (given_checks model count cuts) _ ∙ go (refusal (given_checks model count cuts)) _ (sym e))
 
     pub room-refused : length sheet < bytes → WritesCuts model count cuts sheet (Refused 8) sheet
     room-refused h = refusing (places (applies 8 (ltb (length sheet) bytes) [] (lt-ltb (length sheet) bytes h) (λ q. omega arith))) (λ q. omega arith)
@@ -177,7 +166,7 @@ module _ (model : List ℕ) (count : ℕ) (cuts sheet : List ℕ) where
     task-ok o = accepted-task model o
 
     ok-parts : (judge_sheet model ≡ 0) × (judged (cut_entries (task_on model) (of_cuts count cuts)) ≡ 0)
-    ok-parts = given-ok model count cuts (sym e ∙ z)
+    ok-parts = given-ok model count cuts (sym e)
 
     abbrev E : List Entry
     E = cut_entries (task_on model) (of_cuts count cuts)
@@ -194,8 +183,8 @@ module _ (model : List ℕ) (count : ℕ) (cuts sheet : List ℕ) where
         wide i l = w i l
 
     pub put_written : Bytes sheet → bytes ≤ length sheet → ((i : ℕ) → i < count → get_or cuts (i * 3 + 2) 0 < 2 ^ 32) → {n : ℕ} {front part exit : List ℕ} → n ≡ bytes
-        → front ≡ over model sheet → part ≡ packed 0 E (take (length front - length model) (drop (length model) front)) → exit ≡ put_mid (length model) (length front - length model) front part
-        → WritesCuts model count cuts sheet (Sheet n) exit
+        → front ≡ model ++ drop (length model) sheet → part ≡ packed 0 E (take (length front - length model) (drop (length model) front)) → exit ≡ put_mid (length model) (length front - length model) front part
+        → WritesCuts model count cuts sheet (Done n) exit
     unfolding writing_cuts cut_sheet_of over
     put_written b h w {n} {front} {part} {exit} q f p x =
         let d = drop (length model) sheet in
@@ -204,4 +193,4 @@ module _ (model : List ℕ) (count : ℕ) (cuts sheet : List ℕ) where
         let o : exit ≡ over (model ++ sheet_of E) sheet =
         x ∙ ap (λ (l : List ℕ). put_mid (length model) (length l - length model) l part) f ∙ put-tail model d part ∙ ap (λ (l : List ℕ). model ++ l) i ∙ over-two model d (sheet_of E) sheet in
         let k : 0 ≡ refusal (write_cuts_checks model count cuts sheet) = places (passes 8 (ltb (length sheet) bytes) [] (le-ltb (length sheet) bytes h) no-checks) in
-        simp (eq-eqb (refusal (write_cuts_checks model count cuts sheet)) 0 (sym k)) (ap₂ write_cuts_outcome (ap Sheet q) o)
+        simp (eq-eqb (refusal (write_cuts_checks model count cuts sheet)) 0 (sym k)) (ap₂ write_cuts_outcome (ap Done q) o)

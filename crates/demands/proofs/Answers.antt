@@ -25,7 +25,7 @@ use Rattle.run.proofs.RunLaws.{NoPlan as NonePlans}
 use Rattle.running.specs.declared.Answer.TheVariants.{Plan, NoPlan, Open}
 use Rattle.running.specs.Running.{number, Runs}
 use Rattle.run_laws.proofs.Answers as said
-use Rattle.asking.specs.declared.Asked.TheVariants.{Estimates}
+use Rattle.fields.specs.Refusals.{Done}
 use Rattle.asking.specs.Question.{state_in, states_in, bad_states, estimate_at, estimates_of, valued, question_checks, Asks}
 use Rattle.question_laws.proofs.Estimates as estimates
 use Rattle.sheets.specs.LentTables.{too_few}
@@ -38,11 +38,11 @@ use Rattle.demands.proofs.Cuts as cut
 
 -- ---- "A plan can be carried out from the start, reaches the goal, and no plan is cheaper", and its rows are in the list
 module _ (s : List ℕ) (room : ℕ) (cuts rows : List ℕ) {c l : List ℕ} where
-  pub plan-right : {cost n b : ℕ} → Runs s room cuts rows (Plan cost n b) c l → said.Planned (task_on s) cost n rows l
+  pub plan-right : {cost n b : ℕ} → Runs s room cuts rows (Done (Plan cost n b)) c l → said.Planned (task_on s) cost n rows l
   plan-right done = (said.run-says s room cuts rows done (unfold number in refl)).says.1
 
   -- "'No plan' is said only where none exists"
-  pub no-plan-right : {b : ℕ} → Runs s room cuts rows (NoPlan b) c l → NonePlans (task_on s)
+  pub no-plan-right : {b : ℕ} → Runs s room cuts rows (Done (NoPlan b)) c l → NonePlans (task_on s)
   no-plan-right done = (said.run-says s room cuts rows done (unfold number in refl)).says.2
 
 -- the same of the historian's run
@@ -56,11 +56,11 @@ module _ (s : List ℕ) (room : ℕ) (cuts rows : List ℕ) {r : ℕ} {c l : Lis
 -- ---- 01, step 4: "open" with the start's estimate, which is that after the cuts made. It is a lower bound: no plan costs less
 
 -- an open answer refuses nothing
-pub open_kept : (e b : ℕ) → number (Open e b) ≡ 0
+pub open_kept : (e b : ℕ) → number (Done (Open e b)) ≡ 0
 unfolding number
 open_kept e b = refl
 
-module _ (s : List ℕ) (room : ℕ) (cuts rows : List ℕ) {e b : ℕ} {c l : List ℕ} (done : Runs s room cuts rows (Open e b) c l) where
+module _ (s : List ℕ) (room : ℕ) (cuts rows : List ℕ) {e b : ℕ} {c l : List ℕ} (done : Runs s room cuts rows (Done (Open e b)) c l) where
   pub open-estimate : estimate (task_on s) (cut.made s room cuts rows done (open_kept e b)) (start (task_on s)) ≡ some e
   open-estimate = said.open-estimate s room cuts rows (cut.ran s room cuts rows done (open_kept e b)) e b refl
 
@@ -80,7 +80,7 @@ module _ (s : List ℕ) (room : ℕ) (cuts rows : List ℕ) {r : ℕ} {c l : Lis
       said.none_below (task_on s) m.model m.made m.ok (value r) entry-open-estimate
 
 -- ---- "For any accepted cut list, a state's estimate is the abstract distance as 01 defines it, and no plan from that state costs less"
-module _ (model s states est : List ℕ) {n : ℕ} {next : List ℕ} (done : Asks model s states est (Estimates n) next) where
+module _ (model s states est : List ℕ) {n : ℕ} {next : List ℕ} (done : Asks model s states est (Done n) next) where
   abbrev t : Task
   t = task_on model
 

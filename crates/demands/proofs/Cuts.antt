@@ -20,7 +20,8 @@ use Rattle.sheets.specs.Holding.{task_on}
 use Rattle.blocks.specs.Flat.{cut_place}
 use Rattle.run.specs.Listing.{listed}
 use Rattle.running.specs.declared.Answer.{Answer}
-use Rattle.running.specs.declared.Answer.TheVariants.{Plan, NoPlan, Open, Refused}
+use Rattle.running.specs.declared.Answer.TheVariants.{Plan, NoPlan, Open}
+use Rattle.fields.specs.Refusals.{Answered, Done, Refused}
 use Rattle.running.specs.Running.{number, Runs}
 use Rattle.run_laws.proofs.Flaws.{FlawMet}
 use Rattle.run_laws.proofs.Answers as said
@@ -30,21 +31,21 @@ use Rattle.demands.proofs.Numbers.{kind, blocks}
 use Rattle.demands.proofs.Entry as entry
 
 -- the number of blocks that an answer tells
-pub blocks_told : Answer → ℕ
-blocks_told (Plan n m b) = b
-blocks_told (NoPlan b) = b
-blocks_told (Open e b) = b
+pub blocks_told : Answered Answer → ℕ
+blocks_told (Done (Plan n m b)) = b
+blocks_told (Done (NoPlan b)) = b
+blocks_told (Done (Open e b)) = b
 blocks_told (Refused n) = 0
 
-blocks-said : (t : Task) (room : ℕ) (cs : List Cut) (l₀ l : List ℕ) (a : Answer) → said.Says t room cs l₀ l a → blocks_told a ≡ length cs + 1
+blocks-said : (t : Task) (room : ℕ) (cs : List Cut) (l₀ l : List ℕ) (a : Answered Answer) → said.Says t room cs l₀ l a → blocks_told a ≡ length cs + 1
 unfolding blocks_told
-blocks-said t room cs l₀ l (Plan n m b) h = h.0
-blocks-said t room cs l₀ l (NoPlan b) h = h.0
-blocks-said t room cs l₀ l (Open e b) h = h.0
+blocks-said t room cs l₀ l (Done (Plan n m b)) h = h.0
+blocks-said t room cs l₀ l (Done (NoPlan b)) h = h.0
+blocks-said t room cs l₀ l (Done (Open e b)) h = h.0
 blocks-said t room cs l₀ l (Refused n) h = absurd h
 
 -- ---- run
-module _ (s : List ℕ) (room : ℕ) (cuts rows : List ℕ) {a : Answer} {c l : List ℕ} (done : Runs s room cuts rows a c l) (kept : number a ≡ 0) where
+module _ (s : List ℕ) (room : ℕ) (cuts rows : List ℕ) {a : Answered Answer} {c l : List ℕ} (done : Runs s room cuts rows a c l) (kept : number a ≡ 0) where
   abbrev t : Task
   t = task_on s
 
@@ -85,11 +86,11 @@ module _ (s : List ℕ) (room : ℕ) (cuts rows : List ℕ) {a : Answer} {c l : 
   blocks-within = (omega (arith, blocks-are-cuts-plus-one), omega (arith, blocks-are-cuts-plus-one, ran.within), ran.few)
 
   -- with room for N or more the run never ends open
-  pub never-open : state_count t ≤ room → (e b : ℕ) → a ≡ Open e b → ⊥
+  pub never-open : state_count t ≤ room → (e b : ℕ) → a ≡ Done (Open e b) → ⊥
   never-open = said.never-open s room cuts rows ran
 
   -- an open run has filled its room
-  pub open-is-full : (e b : ℕ) → a ≡ Open e b → length made + 1 ≡ room
+  pub open-is-full : (e b : ℕ) → a ≡ Done (Open e b) → length made + 1 ≡ room
   open-is-full = said.open-is-full s room cuts rows ran
 
   -- from cut to cut no state's estimate falls

@@ -29,6 +29,7 @@ use Rattle.run.proofs.RunRightLaws.{run-right}
 use Rattle.run.proofs.LengthLaws.{plan-short}
 use Rattle.blocks.specs.Flat.{cut_place}
 use Rattle.run.specs.Listing.{listed, row_place}
+use Rattle.fields.specs.Refusals.{Done}
 use Rattle.running.specs.Running.{room_checks, run_checks, returned}
 use Rattle.values.specs.Values.{bytes_of, values_on}
 use Rattle.historian.specs.Entries.{answer_number, entry_checks, RunEntryOutcome, made_bytes, EntryRuns}
@@ -78,7 +79,7 @@ pub record Tells (t : Task) (room : ℕ) (cs : List Cut) (bytes₀ : List ℕ) (
 
 module _ (t : Task) (v : Accepted t) (room : ℕ) (few : room ≤ limits.blocks) (cs : List Cut) (ok : accepted t cs ≡ true) (fit : length cs + 1 ≤ room) (bytes₀ : List ℕ) where
   abbrev Told : run.Answer → Type 0
-  Told a = Tells t room cs bytes₀ (answer_number (returned t (length cs + 1) a)) (over (bytes_of (listed row_place (rows_of t a))) bytes₀)
+  Told a = Tells t room cs bytes₀ (answer_number (Done (returned t (length cs + 1) a))) (over (bytes_of (listed row_place (rows_of t a))) bytes₀)
 
   tells : (a : run.Answer) → Right t room cs a → ((ss : List Step) → a ≡ plan ss → length ss < room) → Told a
   unfolding answer_number returned rows_of
@@ -160,7 +161,7 @@ module _ (s : List ℕ) (room : ℕ) (cuts rows₀ : List ℕ) {r : ℕ} {cuts' 
       let o = run.run t room in
       let w = run-right t v room f.0 in
       let fit : length o.made + 1 ≤ room = omega (arith, w.fits) in
-      let e : r ≡ answer_number (returned t (length o.made + 1) o.answer) = ap (λ (x : RunEntryOutcome). x.answer) (done ∙ entry-made s room cuts rows₀ z) ∙ (unfold made_bytes run.block_count in refl) in
+      let e : r ≡ answer_number (Done (returned t (length o.made + 1) o.answer)) = ap (λ (x : RunEntryOutcome). x.answer) (done ∙ entry-made s room cuts rows₀ z) ∙ (unfold made_bytes run.block_count in refl) in
       let l : rows' ≡ over (bytes_of (listed row_place (rows_of t o.answer))) rows₀ = ap (λ (x : RunEntryOutcome). x.rows) (done ∙ entry-made s room cuts rows₀ z) ∙ (unfold made_bytes in refl) in
       record {
         model = v;

@@ -22,7 +22,7 @@ use Rattle.sheets.proofs.SheetLaws.{bits-le, header-fine, part-header, part-done
 use Rattle.fields.proofs.PlaceLaws.{same-field}
 use Rattle.sheets.proofs.RoundLaws.{Same, same-fields, bits-next}
 use Rattle.sheet_laws.proofs.Largest.{largest}
-use Rattle.running.specs.declared.Answer.TheVariants.{Refused}
+use Rattle.fields.specs.Refusals.{Refused}
 use Rattle.running.specs.Running.{room_check}
 use Rattle.lines.specs.Lines.{input_bytes, first_line, printed}
 use Rattle.demands.specs.Files.{room_in, sheet_in, file_checks}

@@ -30,7 +30,7 @@ use Rattle.run.specs.Run as run
 use Rattle.run.specs.Run.{plan, no_plan, «open»}
 use Rattle.run.proofs.RunLaws.{Right}
 use Rattle.run.proofs.RunRightLaws.{run-right}
-use Rattle.running.specs.declared.Answer.TheVariants.{Refused}
+use Rattle.fields.specs.Refusals.{Done, Refused}
 use Rattle.running.specs.Running.{returned}
 use Rattle.lines.specs.Lines.{output_bytes, width, decimal, labelled, first_line, made_lines, ran_lines, printed, Prints}
 use Rattle.lines.proofs.LengthLaws.{printed-fits, ran-accepted}
@@ -60,7 +60,7 @@ unfolding over
 text-shown lines out = take-append_seam lines (drop (length lines) out)
 
 -- the lines of a run tell none
-run-tells : (t : Task) (b : ℕ) (a : run.Answer) (rows : List ℕ) → refusal_on (first_line (returned t b a) ++ rows) ≡ 0
+run-tells : (t : Task) (b : ℕ) (a : run.Answer) (rows : List ℕ) → refusal_on (first_line (Done (returned t b a)) ++ rows) ≡ 0
 unfolding refusal_on returned first_line labelled
 run-tells t b (plan ss) rows = refl
 run-tells t b no_plan rows = refl

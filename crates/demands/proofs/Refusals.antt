@@ -30,27 +30,17 @@ use Rattle.cut_sheets.specs.CutSheet.{tail_of, cuts_of, cut_list, rebuild_checks
 use Rattle.cut_laws.proofs.Refusals as cut
 use Rattle.question_laws.proofs.Refusals as asked
 use Rattle.run_laws.proofs.Refusals as ran
-use Rattle.reading.specs.declared.ModelRead.{ModelRead}
-use Rattle.reading.specs.declared.ModelRead.TheVariants as read
+use Rattle.fields.specs.Refusals.{Answered, Done, Refused, told_number}
 use Rattle.reading.specs.Reading as reading
-use Rattle.writing.specs.declared.write.SheetWritten.{SheetWritten}
-use Rattle.writing.specs.declared.write.SheetWritten.TheVariants as written
+use Rattle.reading.specs.Reading.{Counts, counts}
 use Rattle.writing.specs.Writing as writing
-use Rattle.cut_reading.specs.declared.CutsRebuilt.{CutsRebuilt}
-use Rattle.cut_reading.specs.declared.CutsRebuilt.TheVariants as rebuilt
 use Rattle.cut_reading.specs.Rebuilding as rebuilding
-use Rattle.cut_writing.specs.declared.CutsWritten.{CutsWritten}
-use Rattle.cut_writing.specs.declared.CutsWritten.TheVariants as cuts_written
 use Rattle.cut_writing.specs.CutWriting as cut_writing
-use Rattle.asking.specs.declared.Asked.{Asked}
-use Rattle.asking.specs.declared.Asked.TheVariants as answered
 use Rattle.asking.specs.Question as question
 use Rattle.asking.specs.Question.{states_in, estimates_of}
 use Rattle.values.specs.Values.{bytes_of, values_on, signed_bytes}
-use Rattle.replay.specs.declared.Replayed.{Replayed}
-use Rattle.replay.specs.declared.Replayed.TheVariants as replayed
 use Rattle.replay.specs.Replay as replay
-use Rattle.replay.specs.Replay.{bad_row, row_list}
+use Rattle.replay.specs.Replay.{Replayed, bad_row, row_list}
 use Rattle.replay.proofs.LogLaws.{bad-first}
 use Rattle.replay_laws.proofs.Refusals as replays
 use Rattle.run.specs.declared.Row.{Row}
@@ -59,7 +49,6 @@ use Rattle.run.specs.Run.{plan, no_plan, «open»}
 use Rattle.blocks.specs.Flat.{cut_place}
 use Rattle.run.specs.Listing.{listed, row_place}
 use Rattle.running.specs.declared.Answer.{Answer}
-use Rattle.running.specs.declared.Answer.TheVariants as answer
 use Rattle.running.specs.Running as running
 use Rattle.running.specs.Running.{returned}
 use Rattle.rows.specs.Rows as rows
@@ -70,48 +59,48 @@ use Rattle.demands.proofs.RefusalNumbers.{sheet_numbers, read-gives, write-gives
 use Rattle.demands.proofs.RefusalNumbers.{question_numbers, question-gives, replay_numbers, replay-gives, replay-byte, run_numbers, run-gives, run-byte}
 
 -- ---- read_model
-module _ (s frame costs marks : List ℕ) {r : ModelRead} {f c m : List ℕ} (done : reading.ReadsModel s frame costs marks r f c m) where
-  pub read-model-judged : Judged (λ (o : reading.ReadOutcome). reading.number o.answer) (λ n. reading.read_outcome (read.Refused n) frame costs marks) (read_checks s frame costs marks)
-      (reading.read_outcome (read.Held (columns_of s) (steps_of s)) (over (frame_of (of_sheet s)) frame) (over (costs_of (of_sheet s)) costs) (over (marks_of (of_sheet s)) marks)) (reading.read_outcome r f c m)
+module _ (s frame costs marks : List ℕ) {r : Answered Counts} {f c m : List ℕ} (done : reading.ReadsModel s frame costs marks r f c m) where
+  pub read-model-judged : Judged (λ (o : reading.ReadOutcome). told_number o.answer) (λ n. reading.read_outcome (Refused n) frame costs marks) (read_checks s frame costs marks)
+      (reading.read_outcome (Done (counts (columns_of s) (steps_of s))) (over (frame_of (of_sheet s)) frame) (over (costs_of (of_sheet s)) costs) (over (marks_of (of_sheet s)) marks)) (reading.read_outcome r f c m)
   read-model-judged = subst (Judged _ _ _ _) (sym done) (sheet.reader s frame costs marks)
 
-  pub read-model-numbers : has sheet_numbers (reading.number r) ≡ true
+  pub read-model-numbers : has sheet_numbers (told_number r) ≡ true
   read-model-numbers = ap (has sheet_numbers) read-model-judged.told ∙ read-gives s frame costs marks
 
 -- ---- write_model
-module _ (columns steps : ℕ) (frame costs marks sheet₀ : List ℕ) {r : SheetWritten} {s : List ℕ} (done : writing.WritesModel columns steps frame costs marks sheet₀ r s) where
+module _ (columns steps : ℕ) (frame costs marks sheet₀ : List ℕ) {r : Answered ℕ} {s : List ℕ} (done : writing.WritesModel columns steps frame costs marks sheet₀ r s) where
   abbrev P : Source
   P = of_tables columns steps frame costs marks
 
-  pub write-model-judged : Judged (λ (o : writing.WriteOutcome). writing.number o.answer) (λ n. writing.write_outcome (written.Refused n) sheet₀) (write_checks P sheet₀)
-      (writing.write_outcome (written.Sheet (model_bytes (columns_in P) (steps_in P))) (over (sheet_of (entries P)) sheet₀)) (writing.write_outcome r s)
+  pub write-model-judged : Judged (λ (o : writing.WriteOutcome). told_number o.answer) (λ n. writing.write_outcome (Refused n) sheet₀) (write_checks P sheet₀)
+      (writing.write_outcome (Done (model_bytes (columns_in P) (steps_in P))) (over (sheet_of (entries P)) sheet₀)) (writing.write_outcome r s)
   write-model-judged = subst (Judged _ _ _ _) (sym done) (sheet.writer P sheet₀)
 
-  pub write-model-numbers : has sheet_numbers (writing.number r) ≡ true
+  pub write-model-numbers : has sheet_numbers (told_number r) ≡ true
   write-model-numbers = ap (has sheet_numbers) write-model-judged.told ∙ write-gives P sheet₀
 
 -- ---- rebuild
-module _ (model s cuts : List ℕ) {r : CutsRebuilt} {c : List ℕ} (done : rebuilding.Rebuilds model s cuts r c) where
-  pub rebuild-judged : Judged (λ (o : rebuilding.RebuildOutcome). rebuilding.number o.answer) (λ n. rebuilding.rebuild_outcome (rebuilt.Refused n) cuts) (rebuild_checks model s cuts)
-      (rebuilding.rebuild_outcome (rebuilt.Cuts (count_of (tail_of s))) (over (cut_list s) cuts)) (rebuilding.rebuild_outcome r c)
+module _ (model s cuts : List ℕ) {r : Answered ℕ} {c : List ℕ} (done : rebuilding.Rebuilds model s cuts r c) where
+  pub rebuild-judged : Judged (λ (o : rebuilding.RebuildOutcome). rebuilding.number o.answer) (λ n. rebuilding.rebuild_outcome (Refused n) cuts) (rebuild_checks model s cuts)
+      (rebuilding.rebuild_outcome (Done (count_of (tail_of s))) (over (cut_list s) cuts)) (rebuilding.rebuild_outcome r c)
   rebuild-judged = subst (Judged _ _ _ _) (sym done) (cut.rebuilder model s cuts)
 
   pub rebuild-numbers : has rebuild_numbers (rebuilding.number r) ≡ true
   rebuild-numbers = ap (has rebuild_numbers) rebuild-judged.told ∙ rebuild-gives model s cuts
 
 -- ---- write_cuts
-module _ (model : List ℕ) (count : ℕ) (cuts sheet₀ : List ℕ) {r : CutsWritten} {s : List ℕ} (done : cut_writing.WritesCuts model count cuts sheet₀ r s) where
-  pub write-cuts-judged : Judged (λ (o : cut_writing.WriteCutsOutcome). cut_writing.number o.answer) (λ n. cut_writing.write_cuts_outcome (cuts_written.Refused n) sheet₀) (write_cuts_checks model count cuts sheet₀)
-      (cut_writing.write_cuts_outcome (cuts_written.Sheet (length model + cut_bytes count)) (over (cut_sheet_of model count cuts) sheet₀)) (cut_writing.write_cuts_outcome r s)
+module _ (model : List ℕ) (count : ℕ) (cuts sheet₀ : List ℕ) {r : Answered ℕ} {s : List ℕ} (done : cut_writing.WritesCuts model count cuts sheet₀ r s) where
+  pub write-cuts-judged : Judged (λ (o : cut_writing.WriteCutsOutcome). cut_writing.number o.answer) (λ n. cut_writing.write_cuts_outcome (Refused n) sheet₀) (write_cuts_checks model count cuts sheet₀)
+      (cut_writing.write_cuts_outcome (Done (length model + cut_bytes count)) (over (cut_sheet_of model count cuts) sheet₀)) (cut_writing.write_cuts_outcome r s)
   write-cuts-judged = subst (Judged _ _ _ _) (sym done) (cut.writer model count cuts sheet₀)
 
   pub write-cuts-numbers : has cut_numbers (cut_writing.number r) ≡ true
   write-cuts-numbers = ap (has cut_numbers) write-cuts-judged.told ∙ write-cuts-gives model count cuts sheet₀
 
 -- ---- question
-module _ (model s states est : List ℕ) {r : Asked} {l : List ℕ} (done : question.Asks model s states est r l) where
-  pub question-judged : Judged (λ (o : question.QuestionOutcome). question.number o.answer) (λ n. question.question_outcome (answered.Refused n) est) (question.question_checks model s states est)
-      (question.question_outcome (answered.Estimates (states_in (task_on model) states)) (over (estimates_of (task_on model) (cuts_of s) states) est)) (question.question_outcome r l)
+module _ (model s states est : List ℕ) {r : Answered ℕ} {l : List ℕ} (done : question.Asks model s states est r l) where
+  pub question-judged : Judged (λ (o : question.QuestionOutcome). question.number o.answer) (λ n. question.question_outcome (Refused n) est) (question.question_checks model s states est)
+      (question.question_outcome (Done (states_in (task_on model) states)) (over (estimates_of (task_on model) (cuts_of s) states) est)) (question.question_outcome r l)
   question-judged = subst (Judged _ _ _ _) (sym done) (asked.asker model s states est)
 
   pub question-numbers : has question_numbers (question.number r) ≡ true
@@ -121,15 +110,15 @@ module _ (model s states est : List ℕ) {r : Asked} {l : List ℕ} (done : ques
 module _ (model s log : List ℕ) (rs : List ℤ) {r : Replayed} {l : List ℤ} (done : replay.Replays model s log rs r l) where
   pub replay-judged : Judged (λ (o : replay.ReplayOutcome). replay.number o.answer) (λ n. replay.replay_outcome (replay.refused (task_on model) log n) rs)
       (replay.replay_checks model s log rs)
-      (replay.replay_outcome (replayed.Rows (length log)) (over (row_list (task_on model) (cuts_of s) log) rs)) (replay.replay_outcome r l)
+      (replay.replay_outcome (replay.Rows (length log)) (over (row_list (task_on model) (cuts_of s) log) rs)) (replay.replay_outcome r l)
   replay-judged = subst (Judged _ _ _ _) (sym done) (replays.replayer model s log rs)
 
   pub replay-numbers : has replay_numbers (replay.number r) ≡ true
   replay-numbers = ap (has replay_numbers) replay-judged.told ∙ replay-gives model s log rs
 
 -- ---- run
-module _ (s : List ℕ) (room : ℕ) (cuts rs : List ℕ) {r : Answer} {c l : List ℕ} (done : running.Runs s room cuts rs r c l) where
-  pub run-judged : Judged (λ (o : running.RunOutcome). running.number o.answer) (λ n. running.run_outcome (answer.Refused n) cuts rs) (running.run_checks s room cuts rs)
+module _ (s : List ℕ) (room : ℕ) (cuts rs : List ℕ) {r : Answered Answer} {c l : List ℕ} (done : running.Runs s room cuts rs r c l) where
+  pub run-judged : Judged (λ (o : running.RunOutcome). running.number o.answer) (λ n. running.run_outcome (Refused n) cuts rs) (running.run_checks s room cuts rs)
       (running.made (task_on s) (run.run (task_on s) room) cuts rs) (running.run_outcome r c l)
   run-judged = subst (Judged _ _ _ _) (sym done) (ran.runner s room cuts rs)
 
@@ -139,17 +128,17 @@ module _ (s : List ℕ) (room : ℕ) (cuts rs : List ℕ) {r : Answer} {c l : Li
 -- ---- the run of crate rows
 module _ (s : List ℕ) (room : ℕ) (cuts : List ℕ) (rs : List Row) where
   abbrev rows_made : rows.RowRunOutcome
-  rows_made = let o = run.run (task_on s) room in rows.row_run_outcome (returned (task_on s) (run.block_count o) o.answer) (over (listed cut_place o.made) cuts) (over (run.rows_of (task_on s) o.answer) rs)
+  rows_made = let o = run.run (task_on s) room in rows.row_run_outcome (Done (returned (task_on s) (run.block_count o) o.answer)) (over (listed cut_place o.made) cuts) (over (run.rows_of (task_on s) o.answer) rs)
 
-  row-runner : Judged (λ (o : rows.RowRunOutcome). running.number o.answer) (λ n. rows.row_run_outcome (answer.Refused n) cuts rs) (row_checks s room cuts rs) rows_made (row_run s room cuts rs)
+  row-runner : Judged (λ (o : rows.RowRunOutcome). running.number o.answer) (λ n. rows.row_run_outcome (Refused n) cuts rs) (row_checks s room cuts rs) rows_made (row_run s room cuts rs)
   unfolding row_run running.number
   row-runner =
       let t = task_on s in
       judges _ _ ran.numbers refl (row_checks s room cuts rs) (ran.run-numbers s room cuts (listed row_place rs)) _
       (ran.told-number t (run.block_count (run.run t room)) (run.run t room).answer) refl
 
-  module _ {a : Answer} {c : List ℕ} {l : List Row} (done : RowRuns s room cuts rs a c l) where
-    pub row-run-judged : Judged (λ (o : rows.RowRunOutcome). running.number o.answer) (λ n. rows.row_run_outcome (answer.Refused n) cuts rs) (row_checks s room cuts rs) rows_made (rows.row_run_outcome a c l)
+  module _ {a : Answered Answer} {c : List ℕ} {l : List Row} (done : RowRuns s room cuts rs a c l) where
+    pub row-run-judged : Judged (λ (o : rows.RowRunOutcome). running.number o.answer) (λ n. rows.row_run_outcome (Refused n) cuts rs) (row_checks s room cuts rs) rows_made (rows.row_run_outcome a c l)
     row-run-judged = subst (Judged _ _ _ _) (sym done) row-runner
 
     pub row-run-numbers : has run_numbers (running.number a) ≡ true
@@ -159,7 +148,7 @@ module _ (s : List ℕ) (room : ℕ) (cuts : List ℕ) (rs : List Row) where
 abbrev pub refusal_in : ℕ → ℕ
 refusal_in r = cond (ltb r (2 ^ 56)) r 0
 
-large : (t : Task) (b : ℕ) (a : run.Answer) → 2 ^ 56 ≤ answer_number (returned t b a)
+large : (t : Task) (b : ℕ) (a : run.Answer) → 2 ^ 56 ≤ answer_number (Done (returned t b a))
 unfolding answer_number returned
 large t b (plan ss) = omega arith
 large t b no_plan = omega arith
@@ -181,7 +170,7 @@ module _ (s : List ℕ) (room : ℕ) (cuts rs : List ℕ) where
   unfolding run_entry made_bytes
   entry-runner =
       let o = run.run (task_on s) room in
-      let v = answer_number (returned (task_on s) (run.block_count o) o.answer) in
+      let v = answer_number (Done (returned (task_on s) (run.block_count o) o.answer)) in
       judges _ _ ran.numbers refl (entry_checks s room cuts rs) (ran.run-numbers s room (values_on cuts) (values_on rs)) _
       (ap (λ (b : Bool). cond b v 0) (le-ltb v (2 ^ 56) (large (task_on s) (run.block_count o) o.answer)))
       (ap (λ (b : Bool). cond b R 0) (lt-ltb R (2 ^ 56) (omega (arith, run-byte s room (values_on cuts) (values_on rs)))))
@@ -240,21 +229,21 @@ module _ (model s log rs : List ℕ) where
   unfolding replay.refused replay_number
   told_back = split (eqb Q 14) refl
     where
-      split : (b : Bool) → eqb Q 14 ≡ b → replay_refusal (replay_number (cond b (replayed.Stopped (bad_row (task_on model) steps)) (replayed.Refused Q))) ≡ Q
+      split : (b : Bool) → eqb Q 14 ≡ b → replay_refusal (replay_number (cond b (replay.Stopped (bad_row (task_on model) steps)) (replay.Refused Q))) ≡ Q
       split true h =
           let e : Q ≡ 14 = eqb-true Q 14 h in
           refusal-low (bad_row (task_on model) steps * 2 ^ 32 + 14) (omega (arith, row-few e)) ∙ omega (arith, e)
       split false h = let b = replay-byte model s steps (values_on rs) in refusal-low Q (omega (arith, b)) ∙ omega (arith, b)
 
   abbrev rows-made : ReplayEntryOutcome
-  rows-made = replay_entry_outcome (replay_number (replayed.Rows (length steps))) (over (signed_bytes (row_list (task_on model) (cuts_of s) steps)) rs)
+  rows-made = replay_entry_outcome (replay_number (replay.Rows (length steps))) (over (signed_bytes (row_list (task_on model) (cuts_of s) steps)) rs)
 
   entry-replayer : Judged (λ (o : ReplayEntryOutcome). replay_refusal o.answer) (λ n. replay_entry_outcome (replay_number (replay.refused (task_on model) steps n)) rs)
       (replay_entry_checks model s log rs) rows-made (replay_entry model s log rs)
   unfolding replay_entry replay_number
   entry-replayer =
       judges _ _ replays.numbers refl (replay_entry_checks model s log rs) (replays.replay-numbers model s steps (values_on rs)) _
-      (refusal-none (replay_number (replayed.Rows (length steps))) (omega arith)) told_back
+      (refusal-none (replay_number (replay.Rows (length steps))) (omega arith)) told_back
 
   module _ {r : ℕ} {l : List ℕ} (done : EntryReplays model s log rs r l) where
     pub elhavir-replay-judged : Judged (λ (o : ReplayEntryOutcome). replay_refusal o.answer)

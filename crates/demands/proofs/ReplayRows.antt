@@ -18,8 +18,7 @@ use Rattle.fields.specs.Judging.{refusal}
 use Rattle.sheets.specs.Holding.{task_on}
 use Rattle.cut_sheets.specs.CutSheet.{cuts_of}
 use Rattle.values.specs.Values.{value_on, values_on, twos, signed_bytes}
-use Rattle.replay.specs.declared.Replayed.{Replayed}
-use Rattle.replay.specs.declared.Replayed.TheVariants.{Rows, Stopped, Refused}
+use Rattle.replay.specs.Replay.{Replayed, Rows, Stopped, Refused}
 use Rattle.replay.specs.Replay.{bad_row, row_values, row_list, replay_checks, number, row_named, refused, ReplayOutcome, Replays}
 use Rattle.replay.proofs.RowLaws.{rows-length, value-at}
 use Rattle.replay.proofs.PlanLaws.{steps_of, plan-goal}

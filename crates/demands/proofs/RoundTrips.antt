@@ -16,11 +16,9 @@ use Rattle.sheets.specs.ModelSheet.{Source, columns_in, steps_in, columns_of, st
 use Rattle.sheets.specs.LentTables.{frame_of, costs_of, marks_of, of_tables, read_checks, write_checks}
 use Rattle.sheet_laws.proofs.TablesBack as tables
 use Rattle.sheet_laws.proofs.Refusals as sheet
-use Rattle.reading.specs.declared.ModelRead.{ModelRead}
-use Rattle.reading.specs.declared.ModelRead.TheVariants.{Held, Refused as NotRead}
 use Rattle.reading.specs.Reading as reading
-use Rattle.writing.specs.declared.write.SheetWritten.{SheetWritten}
-use Rattle.writing.specs.declared.write.SheetWritten.TheVariants.{Sheet, Refused}
+use Rattle.reading.specs.Reading.{Counts, counts}
+use Rattle.fields.specs.Refusals.{Answered, Done, Refused, told_number}
 use Rattle.writing.specs.Writing as writing
 use Rattle.sheets.specs.Holding.{task_on}
 use Rattle.sheets.proofs.RoundLaws.{written-length}
@@ -28,36 +26,22 @@ use Rattle.cut_sheets.specs.CutPart.{cut_entries, cut_bytes, count_of}
 use Rattle.cut_sheets.specs.CutSheet.{tail_of, cut_sheet_checks, cut_list, rebuild_checks, of_cuts, cut_sheet_of, given_checks, write_cuts_checks}
 use Rattle.cut_laws.proofs.CutsBack as back
 use Rattle.cut_laws.proofs.Refusals as cut
-use Rattle.cut_reading.specs.declared.CutsRebuilt.{CutsRebuilt}
-use Rattle.cut_reading.specs.declared.CutsRebuilt.TheVariants.{Cuts, Refused as NotRebuilt}
 use Rattle.cut_reading.specs.Rebuilding as rebuilding
-use Rattle.cut_writing.specs.declared.CutsWritten.{CutsWritten}
-use Rattle.cut_writing.specs.declared.CutsWritten.TheVariants.{Sheet as CutSheet, Refused as CutsRefused}
 use Rattle.cut_writing.specs.CutWriting as cut_writing
 
-bytes_told : SheetWritten → ℕ
-bytes_told (Sheet n) = n
-bytes_told (Refused n) = 0
+-- how many bytes or cuts an answer tells
+count_told : Answered ℕ → ℕ
+count_told (Done n) = n
+count_told (Refused n) = 0
 
-cut_bytes_told : CutsWritten → ℕ
-cut_bytes_told (CutSheet n) = n
-cut_bytes_told (CutsRefused n) = 0
-
-cuts_told : CutsRebuilt → ℕ
-cuts_told (Cuts n) = n
-cuts_told (NotRebuilt k) = 0
-
-columns_told : ModelRead → ℕ
-columns_told (Held n m) = n
-columns_told (NotRead k) = 0
-
-steps_told : ModelRead → ℕ
-steps_told (Held n m) = m
-steps_told (NotRead k) = 0
+-- the counts that a reader tells
+counts_told : Answered Counts → Counts
+counts_told (Done c) = c
+counts_told (Refused n) = counts 0 0
 
 -- the tables that a reader has filled, as a writer is lent them
 tables_told : reading.ReadOutcome → Source
-tables_told o = of_tables (columns_told o.answer) (steps_told o.answer) o.frame o.costs o.marks
+tables_told o = of_tables (counts_told o.answer).columns (counts_told o.answer).steps o.frame o.costs o.marks
 
 -- what was put over the front of a list is its first values
 front_of : (new old : List ℕ) → take (length new) (over new old) ≡ new
@@ -67,7 +51,7 @@ front_of new old = take-append_seam new (drop (length new) old)
 -- ---- the model sheet
 
 -- written and read back: the reader holds the writer's columns, steps and tables
-module _ (n m : ℕ) (frame costs marks sheet₀ : List ℕ) (bound : (j : ℕ) → j < m → get_or costs j 0 < 65536) {b : ℕ} {s : List ℕ} (wrote : writing.WritesModel n m frame costs marks sheet₀ (Sheet b) s) where
+module _ (n m : ℕ) (frame costs marks sheet₀ : List ℕ) (bound : (j : ℕ) → j < m → get_or costs j 0 < 65536) {b : ℕ} {s : List ℕ} (wrote : writing.WritesModel n m frame costs marks sheet₀ (Done b) s) where
   abbrev P : Source
   P = of_tables n m frame costs marks
 
@@ -75,14 +59,13 @@ module _ (n m : ℕ) (frame costs marks sheet₀ : List ℕ) (bound : (j : ℕ) 
   W = refusal (write_checks P sheet₀)
 
   write-quiet : W ≡ 0
-  unfolding writing.number
-  write-quiet = sym (ap (λ (o : writing.WriteOutcome). writing.number o.answer) wrote ∙ (sheet.writer P sheet₀).told)
+  write-quiet = sym (ap (λ (o : writing.WriteOutcome). told_number o.answer) wrote ∙ (sheet.writer P sheet₀).told)
 
   fields-good : judged (entries P) ≡ 0
   unfolding write_checks judged
   fields-good = (neither (refusal (checks_of (entries P))) _ (sym (refusal-append (checks_of (entries P)) _) ∙ write-quiet)).0
 
-  whole-write : writing.write_outcome (Sheet b) s ≡ writing.write_outcome (Sheet (model_bytes (columns_in P) (steps_in P))) (over (sheet_of (entries P)) sheet₀)
+  whole-write : writing.write_outcome (Done b) s ≡ writing.write_outcome (Done (model_bytes (columns_in P) (steps_in P))) (over (sheet_of (entries P)) sheet₀)
   unfolding writing.writing
   whole-write = wrote ∙ simp (eq-eqb W 0 write-quiet)
 
@@ -92,41 +75,40 @@ module _ (n m : ℕ) (frame costs marks sheet₀ : List ℕ) (bound : (j : ℕ) 
 
   -- the bytes told are the sheet
   pub sheet-is : take b s ≡ sheet_of (entries P)
-  unfolding bytes_told entries
+  unfolding count_told entries
   sheet-is =
-      let l : b ≡ length (sheet_of (entries P)) = ap (λ (o : writing.WriteOutcome). bytes_told o.answer) whole-write ∙ sym (written-length P fields-good bound-in) in
+      let l : b ≡ length (sheet_of (entries P)) = ap (λ (o : writing.WriteOutcome). count_told o.answer) whole-write ∙ sym (written-length P fields-good bound-in) in
       ap (λ (k : ℕ). take k s) l ∙ ap (λ (o : writing.WriteOutcome). take (length (sheet_of (entries P))) o.sheet) whole-write ∙ front_of (sheet_of (entries P)) sheet₀
 
-  pub model-back : (f c k : List ℕ) → n * 3 ≤ length f → m ≤ length c → m * (n * 2) ≤ length k → {r : ModelRead} {f' c' k' : List ℕ} → reading.ReadsModel (take b s) f c k r f' c' k'
-      → reading.read_outcome r f' c' k' ≡ reading.read_outcome (Held n m) (over (take (n * 3) frame) f) (over (take m costs) c) (over (take (m * (n * 2)) marks) k)
+  pub model-back : (f c k : List ℕ) → n * 3 ≤ length f → m ≤ length c → m * (n * 2) ≤ length k → {r : Answered Counts} {f' c' k' : List ℕ} → reading.ReadsModel (take b s) f c k r f' c' k'
+      → reading.read_outcome r f' c' k' ≡ reading.read_outcome (Done (counts n m)) (over (take (n * 3) frame) f) (over (take m costs) c) (over (take (m * (n * 2)) marks) k)
   model-back f c k hf hc hk read = read ∙ ap (λ (x : List ℕ). reading.reading x f c k) sheet-is ∙ tables.tables-back n m frame costs marks fields-good bound f c k hf hc hk
 
 -- accepted bytes, read and written again, come back the same
-module _ (s f c k : List ℕ) (bs : Bytes s) {n m : ℕ} {f' c' k' : List ℕ} (read : reading.ReadsModel s f c k (Held n m) f' c' k') where
+module _ (s f c k : List ℕ) (bs : Bytes s) {n m : ℕ} {f' c' k' : List ℕ} (read : reading.ReadsModel s f c k (Done (counts n m)) f' c' k') where
   abbrev R : ℕ
   R = refusal (read_checks s f c k)
 
   read-quiet : R ≡ 0
-  unfolding reading.number
-  read-quiet = sym (ap (λ (o : reading.ReadOutcome). reading.number o.answer) read ∙ (sheet.reader s f c k).told)
+  read-quiet = sym (ap (λ (o : reading.ReadOutcome). told_number o.answer) read ∙ (sheet.reader s f c k).told)
 
   sheet-good : judge_sheet s ≡ 0
   unfolding read_checks judge_sheet
   sheet-good = (neither (refusal (sheet_checks s)) _ (sym (refusal-append (sheet_checks s) _) ∙ read-quiet)).0
 
-  whole-read : reading.read_outcome (Held n m) f' c' k' ≡ reading.read_outcome (Held (columns_of s) (steps_of s)) (over (frame_of (of_sheet s)) f) (over (costs_of (of_sheet s)) c) (over (marks_of (of_sheet s)) k)
+  whole-read : reading.read_outcome (Done (counts n m)) f' c' k' ≡ reading.read_outcome (Done (counts (columns_of s) (steps_of s))) (over (frame_of (of_sheet s)) f) (over (costs_of (of_sheet s)) c) (over (marks_of (of_sheet s)) k)
   unfolding reading.reading
   whole-read = read ∙ simp (eq-eqb R 0 read-quiet)
 
-  pub model-bytes-back : (sheet₀ : List ℕ) → length s ≤ length sheet₀ → {r : SheetWritten} {s' : List ℕ} → writing.WritesModel n m f' c' k' sheet₀ r s'
-      → writing.write_outcome r s' ≡ writing.write_outcome (Sheet (length s)) (over s sheet₀)
-  unfolding tables_told columns_told steps_told
+  pub model-bytes-back : (sheet₀ : List ℕ) → length s ≤ length sheet₀ → {r : Answered ℕ} {s' : List ℕ} → writing.WritesModel n m f' c' k' sheet₀ r s'
+      → writing.write_outcome r s' ≡ writing.write_outcome (Done (length s)) (over s sheet₀)
+  unfolding tables_told counts_told
   model-bytes-back sheet₀ h wrote = wrote ∙ ap (λ (o : reading.ReadOutcome). writing.writing (tables_told o) sheet₀) whole-read ∙ tables.bytes_back s sheet-good bs f c k sheet₀ h
 
 -- ---- the cut sheet
 
 -- written and rebuilt: the reader has as many cuts, and the values that the writer was to read
-module _ (model : List ℕ) (count : ℕ) (cuts sheet₀ : List ℕ) (sets : (i : ℕ) → i < count → get_or cuts (i * 3 + 2) 0 < 2 ^ 32) {b : ℕ} {s : List ℕ} (wrote : cut_writing.WritesCuts model count cuts sheet₀ (CutSheet b) s) where
+module _ (model : List ℕ) (count : ℕ) (cuts sheet₀ : List ℕ) (sets : (i : ℕ) → i < count → get_or cuts (i * 3 + 2) 0 < 2 ^ 32) {b : ℕ} {s : List ℕ} (wrote : cut_writing.WritesCuts model count cuts sheet₀ (Done b) s) where
   abbrev K : ℕ
   K = refusal (write_cuts_checks model count cuts sheet₀)
 
@@ -140,24 +122,24 @@ module _ (model : List ℕ) (count : ℕ) (cuts sheet₀ : List ℕ) (sets : (i 
       let g : refusal (given_checks model count cuts) ≡ 0 = (neither (refusal (given_checks model count cuts)) _ (sym (refusal-append (given_checks model count cuts) _) ∙ cuts-quiet)).0 in
       neither (refusal (sheet_checks model)) _ (sym (refusal-append (sheet_checks model) _) ∙ g)
 
-  whole-cuts : cut_writing.write_cuts_outcome (CutSheet b) s ≡ cut_writing.write_cuts_outcome (CutSheet (length model + cut_bytes count)) (over (cut_sheet_of model count cuts) sheet₀)
+  whole-cuts : cut_writing.write_cuts_outcome (Done b) s ≡ cut_writing.write_cuts_outcome (Done (length model + cut_bytes count)) (over (cut_sheet_of model count cuts) sheet₀)
   unfolding cut_writing.writing_cuts
   whole-cuts = wrote ∙ simp (eq-eqb K 0 cuts-quiet)
 
   -- the bytes told are the cut sheet
   pub cut-sheet-is : take b s ≡ cut_sheet_of model count cuts
-  unfolding cut_bytes_told
+  unfolding count_told
   cut-sheet-is =
       let S = cut_sheet_of model count cuts in
-      let l : b ≡ length S = ap (λ (o : cut_writing.WriteCutsOutcome). cut_bytes_told o.answer) whole-cuts ∙ sym (back.sheet-long model count cuts given-quiet.0 given-quiet.1 sets) in
+      let l : b ≡ length S = ap (λ (o : cut_writing.WriteCutsOutcome). count_told o.answer) whole-cuts ∙ sym (back.sheet-long model count cuts given-quiet.0 given-quiet.1 sets) in
       ap (λ (k : ℕ). take k s) l ∙ ap (λ (o : cut_writing.WriteCutsOutcome). take (length S) o.sheet) whole-cuts ∙ front_of S sheet₀
 
-  pub cuts_back : (c₀ : List ℕ) → count * 3 ≤ length c₀ → {r : CutsRebuilt} {c : List ℕ} → rebuilding.Rebuilds model (take b s) c₀ r c
-      → rebuilding.rebuild_outcome r c ≡ rebuilding.rebuild_outcome (Cuts count) (over (take (count * 3) cuts) c₀)
+  pub cuts_back : (c₀ : List ℕ) → count * 3 ≤ length c₀ → {r : Answered ℕ} {c : List ℕ} → rebuilding.Rebuilds model (take b s) c₀ r c
+      → rebuilding.rebuild_outcome r c ≡ rebuilding.rebuild_outcome (Done count) (over (take (count * 3) cuts) c₀)
   cuts_back c₀ h rebuilt = rebuilt ∙ ap (λ (x : List ℕ). rebuilding.rebuilding model x c₀) cut-sheet-is ∙ back.cuts_back model count cuts given-quiet.0 given-quiet.1 sets c₀ h
 
 -- accepted bytes: the cuts that were rebuilt, written again with the model from the list that holds them, come back the same
-module _ (model s c₀ : List ℕ) (bs : Bytes s) {n : ℕ} {c : List ℕ} (rebuilt : rebuilding.Rebuilds model s c₀ (Cuts n) c) where
+module _ (model s c₀ : List ℕ) (bs : Bytes s) {n : ℕ} {c : List ℕ} (rebuilt : rebuilding.Rebuilds model s c₀ (Done n) c) where
   abbrev Q : ℕ
   Q = refusal (rebuild_checks model s c₀)
 
@@ -169,11 +151,11 @@ module _ (model s c₀ : List ℕ) (bs : Bytes s) {n : ℕ} {c : List ℕ} (rebu
   unfolding rebuild_checks
   cut-sheet-good = (neither (refusal (cut_sheet_checks model s)) _ (sym (refusal-append (cut_sheet_checks model s) _) ∙ rebuild-quiet)).0
 
-  whole-rebuild : rebuilding.rebuild_outcome (Cuts n) c ≡ rebuilding.rebuild_outcome (Cuts (count_of (tail_of s))) (over (cut_list s) c₀)
+  whole-rebuild : rebuilding.rebuild_outcome (Done n) c ≡ rebuilding.rebuild_outcome (Done (count_of (tail_of s))) (over (cut_list s) c₀)
   unfolding rebuilding.rebuilding
   whole-rebuild = rebuilt ∙ simp (eq-eqb Q 0 rebuild-quiet)
 
-  pub cut-bytes-back : (sheet₀ : List ℕ) → length s ≤ length sheet₀ → {r : CutsWritten} {s' : List ℕ} → cut_writing.WritesCuts model n c sheet₀ r s'
-      → cut_writing.write_cuts_outcome r s' ≡ cut_writing.write_cuts_outcome (CutSheet (length s)) (over s sheet₀)
-  unfolding cuts_told
-  cut-bytes-back sheet₀ h wrote = wrote ∙ ap (λ (o : rebuilding.RebuildOutcome). cut_writing.writing_cuts model (cuts_told o.answer) o.cuts sheet₀) whole-rebuild ∙ back.bytes_back model s cut-sheet-good bs c₀ sheet₀ h
+  pub cut-bytes-back : (sheet₀ : List ℕ) → length s ≤ length sheet₀ → {r : Answered ℕ} {s' : List ℕ} → cut_writing.WritesCuts model n c sheet₀ r s'
+      → cut_writing.write_cuts_outcome r s' ≡ cut_writing.write_cuts_outcome (Done (length s)) (over s sheet₀)
+  unfolding count_told
+  cut-bytes-back sheet₀ h wrote = wrote ∙ ap (λ (o : rebuilding.RebuildOutcome). cut_writing.writing_cuts model (count_told o.answer) o.cuts sheet₀) whole-rebuild ∙ back.bytes_back model s cut-sheet-good bs c₀ sheet₀ h

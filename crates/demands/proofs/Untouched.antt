@@ -15,7 +15,8 @@ use Rattle.blocks.specs.Flat.{cut_place}
 use Rattle.run.specs.Listing.{listed, row_place}
 use Rattle.refining.proofs.CutListLaws.{listed-length}
 use Rattle.running.specs.declared.Answer.{Answer}
-use Rattle.running.specs.declared.Answer.TheVariants.{Plan, NoPlan, Open, Refused}
+use Rattle.running.specs.declared.Answer.TheVariants.{Plan, NoPlan, Open}
+use Rattle.fields.specs.Refusals.{Answered, Done, Refused}
 use Rattle.running.specs.Running.{number, RunOutcome, Runs}
 use Rattle.running.proofs.RowLaws.{three}
 use Rattle.run_laws.proofs.Answers as said
@@ -52,19 +53,19 @@ module _ (s : List ℕ) (room : ℕ) (cuts rs : List ℕ) {c l : List ℕ} where
   refused-untouched n done (no z) = ap (λ (o : RunOutcome). o.rows) ((run-judged s room cuts rs done).leaves n z refl)
 
   -- only a plan writes rows: for "no plan" and "open" they stay untouched, and after a refusal
-  pub rows-untouched : (a : Answer) → Runs s room cuts rs a c l → ((cost n b : ℕ) → a ≡ Plan cost n b → ⊥) → l ≡ rs
+  pub rows-untouched : (a : Answered Answer) → Runs s room cuts rs a c l → ((cost n b : ℕ) → a ≡ Done (Plan cost n b) → ⊥) → l ≡ rs
   unfolding number
-  rows-untouched (Plan cost n b) done h = absurd (h cost n b refl)
-  rows-untouched (NoPlan b) done h = (said.run-says s room cuts rs done refl).says.1
-  rows-untouched (Open e b) done h = (said.run-says s room cuts rs done refl).says.1
+  rows-untouched (Done (Plan cost n b)) done h = absurd (h cost n b refl)
+  rows-untouched (Done (NoPlan b)) done h = (said.run-says s room cuts rs done refl).says.1
+  rows-untouched (Done (Open e b)) done h = (said.run-says s room cuts rs done refl).says.1
   rows-untouched (Refused n) done h = refused-untouched n done (ℕ_discrete n 0)
 
-module _ (s : List ℕ) (room : ℕ) (cuts rs : List ℕ) {a : Answer} {c l : List ℕ} (done : Runs s room cuts rs a c l) where
+module _ (s : List ℕ) (room : ℕ) (cuts rs : List ℕ) {a : Answered Answer} {c l : List ℕ} (done : Runs s room cuts rs a c l) where
   pub cuts-past-untouched : (kept : number a ≡ 0) → drop (length (cut.made s room cuts rs done kept) * 3) c ≡ drop (length (cut.made s room cuts rs done kept) * 3) cuts
   cuts-past-untouched kept = past _ (listed cut_place (cut.made s room cuts rs done kept)) cuts (cut.cuts-listed s room cuts rs done kept) (listed-length _)
 
 -- after a plan of n steps
-pub rows-past-untouched : (s : List ℕ) (room : ℕ) (cuts rs : List ℕ) {cost n b : ℕ} {c l : List ℕ} → Runs s room cuts rs (Plan cost n b) c l → drop (n * 3) l ≡ drop (n * 3) rs
+pub rows-past-untouched : (s : List ℕ) (room : ℕ) (cuts rs : List ℕ) {cost n b : ℕ} {c l : List ℕ} → Runs s room cuts rs (Done (Plan cost n b)) c l → drop (n * 3) l ≡ drop (n * 3) rs
 rows-past-untouched s room cuts rs {n = n} done =
     let p = plan-right s room cuts rs done in
     past (n * 3) (listed row_place (rows (task_on s) p.steps)) rs p.listed-rows (three (task_on s) p.steps ∙ ap (λ (k : ℕ). k * 3) (sym p.count-is))

@@ -14,6 +14,7 @@ use Rattle.sheets.specs.LentTables as tables
 use Rattle.blocks.specs.Blocks as blocks
 use Rattle.cut_sheets.specs.CutPart as part
 use Rattle.cut_sheets.specs.CutSheet as cut
+use Rattle.fields.specs.Refusals.{told_number}
 use Rattle.reading.specs.Reading as reading
 use Rattle.writing.specs.Writing as writing
 use Rattle.cut_reading.specs.Rebuilding as rebuilding
@@ -29,8 +30,8 @@ pub data Call : Type 0 where
 
 -- the number in its outcome
 pub number_of : Call → ℕ
-number_of (reads s frame costs marks) = reading.number (reading.reading s frame costs marks).answer
-number_of (writes n m frame costs marks s) = writing.number (writing.writing (tables.of_tables n m frame costs marks) s).answer
+number_of (reads s frame costs marks) = told_number (reading.reading s frame costs marks).answer
+number_of (writes n m frame costs marks s) = told_number (writing.writing (tables.of_tables n m frame costs marks) s).answer
 number_of (rebuilds model s cuts) = rebuilding.number (rebuilding.rebuilding model s cuts).answer
 number_of (writes_cuts model count cuts s) = cut_writing.number (cut_writing.writing_cuts model count cuts s).answer
 
@@ -135,7 +136,7 @@ list =
     ∷ []
 
 pub worked : map answered list ≡ list
-unfolding answered number_of list reading.number reading.reading writing.number writing.writing rebuilding.number rebuilding.rebuilding cut_writing.number
+unfolding answered number_of list reading.reading writing.writing rebuilding.number rebuilding.rebuilding cut_writing.number
     cut_writing.writing_cuts tables.column_in tables.marks_in tables.of_tables tables.read_checks tables.write_checks cut.tail_of cut.at_front
     cut.cut_sheet_checks cut.rebuild_checks cut.cut_lent cut.of_cuts cut.given_checks cut.write_cuts_checks part.cut_named part.cuts_named part.cut_header
     part.cut_part part.cut_bits part.cut_fields part.cut_entries part.cut_on part.cut_part_with part.of_cut_part part.cut_checks sheet.sheet_checks sheet.entries

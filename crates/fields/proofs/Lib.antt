@@ -5,3 +5,5 @@ pub mod JudgingLaws
 pub mod PackingLaws
 pub mod PlaceLaws
 pub mod ExactLaws
+pub mod RefusalLaws
+pub mod ReadLaws

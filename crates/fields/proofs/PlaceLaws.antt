@@ -8,6 +8,8 @@ use mathlib.Core.Path.{◌≡◌, refl, sym, ap, ap₂, ◌∙◌}
 use mathlib.Core.Bool.{true}
 use mathlib.Core.List.{List, [], ◌∷◌, ◌++◌, append_assoc}
 use lib.ListN.{length, get_or, set, take, drop, length-set, length-append, length-drop, get_or-append}
+use borrow.Rule.Slice.PartMut.{put_mid}
+use Rattle.std.proofs.Common.{take-append-drop}
 use lib.Seq.{length-take-le, take_all, get_or-take, take-add, drop-cons, drop-drop}
 use borrow.Author.Tests.{lt-ltb}
 use Rattle.fields.specs.Judging.{Field, in_table, each}
@@ -67,6 +69,17 @@ puts-after a (x ∷ xs) (y ∷ l) h =
 -- put from the front: the values, and then what stood after them
 pub puts-over : {A : Type 0} (xs l : List A) → length xs ≤ length l → puts 0 xs l ≡ xs ++ drop (length xs) l
 puts-over xs l h = puts-after [] xs l h
+
+-- what a write to a part leaves
+pub puts-part : {A : Type 0} (at k : ℕ) (xs l : List A) → at + k ≤ length l → length xs ≡ k → put_mid at k l xs ≡ puts at xs l
+puts-part at k xs l h e =
+    let front = take at l in
+    let n : length front ≡ at = length-take-le at l (omega arith) in
+    let whole : puts 0 front l ≡ l = puts-over front l (omega arith) ∙ ap (λ (i : ℕ). front ++ drop i l) n ∙ take-append-drop at l in
+    let rest : drop (length (front ++ xs)) l ≡ drop k (drop at l) = ap (λ (i : ℕ). drop i l) (length-append front xs ∙ omega arith) ∙ sym (drop-drop k at l) in
+    sym
+    (ap (puts at xs) (sym whole) ∙ ap (λ (i : ℕ). puts i xs (puts 0 front l)) (sym (zero-add _ ∙ n)) ∙ sym (puts-append 0 front xs l)
+    ∙ puts-over (front ++ xs) l (omega (arith, length-append front xs)) ∙ append_assoc front xs _ ∙ ap (λ (y : List _). front ++ (xs ++ y)) rest)
 
 get_d_after : {A : Type 0} (d : A) (a b : List A) (k : ℕ) → get_or (a ++ b) (length a + k) d ≡ get_or b k d
 get_d_after d [] b k = let e : 0 + k ≡ k = omega arith in rw e refl

@@ -185,12 +185,6 @@ put-more at w v k l {m} h e =
     let d : w - 1 - k + 1 ≡ w - k = omega arith in
     rw (add-one, q) (ap (put_bit (at + k) (v / 2 ^ (w - 1 - k) % 2)) (e ∙ ap (λ (x : ℕ). put_field at k x l) (sym (shr-shr v (w - 1 - k) 1 ∙ ap (λ (x : ℕ). v / 2 ^ x) d))))
 
-pub put_all : (at w v k : ℕ) (l : List ℕ) {m : List ℕ} → k ≤ w → w ≤ k → m ≡ put_field at k (v / 2 ^ (w - k)) l → m ≡ put_field at w v l
-put_all at w v k l {m} h g e =
-    let q : k ≡ w = omega arith in
-    let d : w - k ≡ 0 = omega arith in
-    e ∙ ap (λ (x : ℕ). put_field at x (v / 2 ^ (w - k)) l) q ∙ ap (λ (x : ℕ). put_field at w (v / 2 ^ x) l) d ∙ ap (λ (x : ℕ). put_field at w x l) (div-one v)
-
 -- bytes stay bytes
 bytes-bit : (k b : ℕ) (l : List ℕ) → b < 2 → Bytes l → Bytes (put_bit k b l)
 unfolding put_bit

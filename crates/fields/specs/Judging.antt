@@ -1,5 +1,6 @@
 -- 01, "Refusal numbers": how fields are judged, wherever they come from. Readers and writers share this.
-use Rattle.std.specs.Prelude.{ℕ, zero, suc, ◌+◌, ◌*◌, Bool, true, false, not, ◌||◌, cond, List, [], ◌∷◌, ◌++◌, length, get_or, eqb, leb, ltb}
+use Rattle.std.specs.Prelude.{ℕ, zero, suc, ◌+◌, ◌*◌, Bool, true, false, not, ◌||◌, cond, Option, Some, None}
+use Rattle.std.specs.Prelude.{List, [], ◌∷◌, ◌++◌, length, get_or, eqb, leb, ltb}
 use Rattle.fields.specs.Bits.{field_at}
 
 infixr 30 ◌then◌
@@ -19,6 +20,10 @@ in_table t i = record { here = ltb i (length t); value = get_or t i 0 }
 -- a number that a writer is given
 abbrev pub given : ℕ → Field
 given v = record { here = true; value = v }
+
+-- what code has of a field: its value, where it is complete
+unfoldable pub read : Field → Option ℕ
+read f = cond f.here (Some f.value) None
 
 -- a field of a sheet: its bits, and the refusal number of a value that is bad
 pub record Entry : Type 0 where

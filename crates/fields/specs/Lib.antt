@@ -2,3 +2,4 @@ pub mod Bits
 pub mod Judging
 pub mod Packing
 pub mod Places
+pub mod Refusals

@@ -3,5 +3,7 @@
 
 mod bits;
 pub mod field;
+pub mod judge;
 pub mod place;
 pub mod put;
+pub mod refusal;

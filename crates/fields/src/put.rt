@@ -9,9 +9,7 @@ pub fn put_field(out: &mut [u8], at: usize, w: usize, v: u32)
     requires { (w ≤ widest_field) × (at ≤ farthest_bit) }
     ensures { out.new ≡ put_field at w v out.old }
 {
-    let mut k: usize = 0;
-    while k < w {
+    for k in 0..w {
         put_bit(out, at + k, (v >> (w - 1 - k)) % 2);
-        k += 1;
     }
 }

@@ -1,23 +1,22 @@
 -- The figures of a row as code has them, from the estimates before and after it, in which "no way" is its mark.
 use Rattle.std.specs.Prelude.{ℕ, ◌+◌, ◌*◌, ◌≤◌, ◌<◌, cond, List, [], ◌∷◌, eqb, ℤ, pos, ◌-ℤ◌, get_or}
-use Rattle.task.specs.Sizes.{limits, most_cost}
+use Rattle.task.specs.Sizes.{limits}
 use Rattle.replay.specs.Replay.{dash}
 
 -- what a row is put from: its places are there, and no value is more than a sheet can bring
-pub record RowFits (i paid before after places : ℕ) : Type 0 where
+pub record RowFits (i before after places : ℕ) : Type 0 where
   pub logged : i < limits.log
   pub there : i * 3 + 3 ≤ places
-  pub cost-low : paid ≤ most_cost
   pub before-low : before ≤ limits.no_way
   pub after-low : after ≤ limits.no_way
 
-unfoldable pub won_by : ℕ → ℕ → ℤ
+abbrev pub won_by : ℕ → ℕ → ℤ
 won_by before after = cond (eqb after limits.no_way) dash (pos before -ℤ pos after)
 
-unfoldable pub detour_by : ℕ → ℕ → ℕ → ℤ
+abbrev pub detour_by : ℕ → ℕ → ℕ → ℤ
 detour_by paid before after = cond (eqb after limits.no_way) dash (pos paid -ℤ (pos before -ℤ pos after))
 
-unfoldable pub row_of : ℕ → ℕ → ℕ → List ℤ
+abbrev pub row_of : ℕ → ℕ → ℕ → List ℤ
 row_of paid before after = pos paid ∷ won_by before after ∷ detour_by paid before after ∷ []
 
 -- row i, from tables of costs and of estimates

@@ -1,6 +1,6 @@
 -- A replay on byte lists is the replay of the first values of the log, its rows put as bytes. They are more than a log may have, or all of them: with more than
 -- a log may have 15 is given whatever they are.
-use Prim.Native.Nat.{ℕ, ◌+◌, ◌*◌, ◌/◌, ◌≤◌, ◌<◌}
+use Prim.Native.Nat.{ℕ, min, ◌+◌, ◌*◌, ◌/◌, ◌≤◌, ◌<◌}
 use native.Mathlib.Omega.{arith}
 use native.Mathlib.Decide.{ℕ_discrete, dec_lt}
 use mathlib.Core.Path.{◌≡◌, refl, sym, ap, ◌∙◌, subst}
@@ -11,10 +11,10 @@ use lib.Dec.{eqb, ltb}
 use lib.IntN.{ℤ}
 use lib.ListN.{length, take, drop, length-append}
 use lib.Seq.{take_at}
-use borrow.Author.Tests.{eq-eqb, ne_eqb, lt-ltb, ltb-true}
+use borrow.Author.Tests.{eq-eqb, ne_eqb, lt-ltb}
 use Rattle.task.specs.Loops.{tab, over}
 use Rattle.task.specs.Task.{Task}
-use Rattle.task.proofs.LoopLaws.{tab-length, over-length}
+use Rattle.task.proofs.LoopLaws.{tab-length}
 use Rattle.task.specs.Sizes.{limits}
 use Rattle.fields.specs.Judging.{Check, check, refusal, each, ◌then◌}
 use Rattle.fields.specs.Places.{puts}
@@ -22,19 +22,19 @@ use Rattle.fields.proofs.JudgingLaws.{applies, refusal-append}
 use Rattle.sheets.specs.LentTables.{too_few}
 use Rattle.sheets.specs.Holding.{task_on}
 use Rattle.cut_sheets.specs.CutSheet.{cut_sheet_checks, cuts_of}
-use Rattle.values.specs.Values.{too_many, bytes_at, value_on, values_on, twos, signed_bytes}
+use Rattle.values.specs.Values.{bytes_at, value_on, values_on, twos, signed_bytes}
 use Rattle.values.proofs.ValueLaws.{signed-over, nothing_put}
-use Rattle.replay.specs.declared.Replayed.{Replayed}
-use Rattle.replay.specs.declared.Replayed.TheVariants.{Rows, Stopped, Refused}
+use Rattle.std.specs.Prelude.{Err}
+use Rattle.replay.specs.declared.ReplayRefusal.{ReplayRefusal}
+use Rattle.replay.specs.declared.ReplayRefusal.TheVariants.{Judged, Step}
 use Rattle.replay.specs.Replay as replay
-use Rattle.replay.specs.Replay.{bad_row, row_list, log_checks, replay_checks, row_count, row_named, refused, replay_outcome, replaying, Replays}
+use Rattle.replay.specs.Replay.{told_replay, Replayed, Rows, Stopped, Refused, bad_row, row_list, log_checks, replay_checks, row_count, row_named, refused, replay_outcome, replaying, Replays}
 use Rattle.replay.proofs.LogLaws.{bad-first}
 use Rattle.replay.proofs.RowLaws.{rows-length}
 use Rattle.replay_laws.proofs.Refusals.{quiet, stopped-short}
-use Rattle.values.specs.Usable.{usable}
-use Rattle.values.proofs.UsableLaws.{all-of-them, usable-is, part-long, missing-same}
+use Rattle.values.proofs.PlacesLaws.{part-long, missing-same}
 use Rattle.historian.specs.ReplayEntry.{replay_number, replay_entry_checks, replay_entry_outcome, replay_entry, EntryReplays}
-use Rattle.historian.proofs.WholeLaws.{whole-places}
+use Rattle.historian.proofs.WholeLaws.{whole-places, CanPut}
 
 -- ---- what a log comes to
 bad-row-within : (t : Task) (log : List ℕ) → bad_row t log ≤ length log
@@ -50,6 +50,11 @@ unfolding log_checks
 too_long t log cs h = applies 15 (ltb limits.log (length log)) _ (lt-ltb limits.log (length log) h) (λ z. omega arith)
 
 -- a refusal has no rows, and names one of the log
+pub no-count : (r : ReplayRefusal) → row_count (told_replay (Err r)) ≡ 0
+unfolding row_count
+no-count (Judged r) = refl
+no-count (Step row) = refl
+
 module _ (t : Task) (log : List ℕ) (n : ℕ) where
   no_rows : row_count (refused t log n) ≡ 0
   unfolding refused row_count
@@ -113,8 +118,8 @@ module _ (model s log : List ℕ) (list : List ℤ) where
             let c : row_count a ≡ 0 = ap row_count m ∙ no_rows (task_on model) log N in
             record { fits = omega (arith, c); within = omega (arith, c); named = subst (λ (x : Replayed). row_named x ≤ length log) (sym m) (names-row (task_on model) log N) }
 
--- ---- n values of the log are got, of as many as are seen
-module _ (model s log : List ℕ) (n most : ℕ) (seen : ltb limits.log most ≡ true) (enough : n ≡ usable most (length log / 4)) where
+-- ---- n values of the log are got: all of them, or one more than a log may have
+module _ (model s log : List ℕ) (n : ℕ) (enough : n ≡ min (length log / 4) (limits.log + 1)) where
   abbrev t : Task
   t = task_on model
 
@@ -142,14 +147,13 @@ module _ (model s log : List ℕ) (n most : ℕ) (seen : ltb limits.log most ≡
 
       split : Dec (limits.log < length log / 4) → Whole ⊎ Long
       split (yes h) =
-          let u = (usable-is most (length log / 4)).enough (limits.log + 1) (omega (arith, ltb-true limits.log most seen)) (omega arith) in
-          inr (record { got-long = omega (arith, tab-length n (value_on log), u); all-long = omega (arith, there) })
+          inr (record { got-long = omega (arith, tab-length n (value_on log)); all-long = omega (arith, there) })
       split (no h) =
-          let e : n ≡ length log / 4 = enough ∙ sym (all-of-them most (length log / 4) (omega (arith, ltb-true limits.log most seen))) in
+          let e : n ≡ length log / 4 = omega (arith) in
           inl (record { same = ap (λ (k : ℕ). tab k (value_on log)) e; few = omega (arith, there) })
 
   -- ---- 8 is judged on whole places
-  module _ (rows : List ℕ) (list : List ℤ) (lent : length list ≡ usable limits.log (length rows / 12) * 3) where
+  module _ (rows : List ℕ) (list : List ℤ) (lent : length list ≡ min (length rows / 12) limits.log * 3) where
     abbrev M : ℕ
     M = refusal (replay_entry_checks model s log rows)
 
@@ -162,7 +166,7 @@ module _ (model s log : List ℕ) (n most : ℕ) (seen : ltb limits.log most ≡
         whole : Whole → TailSame
         whole w =
             ap (λ (b : Bool). refusal (log_checks t all ++ (check 8 b ∷ [])))
-            (missing-same limits.log (length rows / 12) (length all) (length (values_on rows)) (length list) w.few (whole-places rows) lent)
+            (missing-same (length rows / 12) limits.log (length all) (length (values_on rows)) (length list) w.few (whole-places rows) lent)
             ∙ ap (λ (l : List ℕ). refusal (log_checks t l ++ (too_few (length l * 3) list ∷ []))) (sym w.same)
 
         long : Long → TailSame
@@ -194,7 +198,7 @@ module _ (model s log : List ℕ) (n most : ℕ) (seen : ltb limits.log most ≡
           split (yes z) =
               let m = ap (λ (o : replay.ReplayOutcome). o.answer) (made model s got list e z) in
               let k : row_count a * 3 ≡ length (figures model s got list) = ap (λ (x : Replayed). row_count x * 3) m ∙ sym (rows-length t (cuts_of s) got) in
-              let b : row_count a * 3 * 4 ≤ length rows = omega (arith, (known model s got list e).fits, (usable-is limits.log (length rows / 12)).there) in
+              let b : row_count a * 3 * 4 ≤ length rows = omega (arith, (known model s got list e).fits) in
               let y = q ∙ signed-over (figures model s got list) list ys rows (row_count a * 3) (ap (λ (o : replay.ReplayOutcome). o.rows) (made model s got list e z)) k b in
               let x = p ∙ ap replay_number m in
               simp (eq-eqb M 0 (checks-same ∙ z))
@@ -207,37 +211,37 @@ module _ (model s log : List ℕ) (n most : ℕ) (seen : ltb limits.log most ≡
               simp (ne_eqb M 0 (λ v. z (sym checks-same ∙ v))) (rw (x, y) (ap (λ (k : ℕ). replay_entry_outcome (replay_number (refused t all k)) rows) (sym checks-same)))
 
 -- ---- the same with the first values of two lists to work in
-module _ (log steps : List ℕ) (n : ℕ) {steps' : List ℕ} (got-is : steps' ≡ over (tab n (value_on log)) steps) where
-  pub got-fits : n ≤ length steps → n ≤ length steps'
-  got-fits h = omega (arith, ap length got-is, over-length n (value_on log) steps h)
-
+module _ (log steps rows : List ℕ) (list : List ℤ) {n m : ℕ} (ls : length steps ≡ limits.log + 1) (ll : length list ≡ limits.log * 3)
+    (p : n ≡ min (length log / 4) (limits.log + 1)) (q : m ≡ min (length rows / 12) limits.log) {steps' : List ℕ} (got-is : steps' ≡ over (tab n (value_on log)) steps) where
   front : take n steps' ≡ tab n (value_on log)
   unfolding over
   front = ap (take n) got-is ∙ take_at (tab n (value_on log)) _ n (tab-length n (value_on log))
 
-  module _ (model s rows : List ℕ) (list : List ℤ) (m : ℕ) (long : length list ≡ limits.log * 3) (q : m ≡ usable limits.log (length rows / 12)) {a : Replayed} {list' : List ℤ}
-      (e : Replays model s (take n steps') (take (m * 3) list) a list') where
+  lent : length (take (m * 3) list) ≡ min (length rows / 12) limits.log * 3
+  lent = part-long (length rows / 12) limits.log list ll q
+
+  module _ (model s : List ℕ) {a : Replayed} {list' : List ℤ} (e : Replays model s (take n steps') (take (m * 3) list) a list') where
     replays : Replays model s (tab n (value_on log)) (take (m * 3) list) a list'
     replays = subst (λ (l : List ℕ). Replays model s l (take (m * 3) list) a list') front e
-
-    lent : length (take (m * 3) list) ≡ usable limits.log (length rows / 12) * 3
-    lent = part-long limits.log (length rows / 12) list long q
 
     facts : Known model s (tab n (value_on log)) (take (m * 3) list) replays
     facts = known model s (tab n (value_on log)) (take (m * 3) list) replays
 
     pub rows_few : row_count a ≤ limits.log
-    rows_few = omega (arith, facts.fits, lent, (usable-is limits.log (length rows / 12)).few)
+    rows_few = omega (arith, facts.fits, lent)
 
-    pub row-few : n ≤ limits.log + 1 → row_named a ≤ limits.log + 1
-    row-few h = omega (arith, facts.named, tab-length n (value_on log))
+    pub row-few : row_named a ≤ limits.log + 1
+    row-few = omega (arith, facts.named, tab-length n (value_on log))
 
-    pub rows-go : {k : ℕ} → k ≡ row_count a * 3 → (k < too_many) × (k ≤ length (list' ++ drop (m * 3) list)) × (k * 4 ≤ length rows)
-    rows-go z =
-        (omega (arith, rows_few), omega (arith, facts.within, length-append list' (drop (m * 3) list)), omega (arith, facts.fits, lent, (usable-is limits.log (length rows / 12)).there))
+    pub rows-go : {k : ℕ} → k ≡ row_count a * 3 → CanPut k (list' ++ drop (m * 3) list) rows
+    rows-go z = record { room = omega (arith, facts.fits, lent); given = omega (arith, facts.within, length-append list' (drop (m * 3) list)) }
 
-    pub replayed-in : (most : ℕ) → n ≡ usable most (length log / 4) → ltb limits.log most ≡ true → {k r : ℕ} {rows' : List ℕ} → k ≡ row_count a * 3 → r ≡ replay_number a
+    pub replayed-in : {k r : ℕ} {rows' : List ℕ} → k ≡ row_count a * 3 → r ≡ replay_number a
         → rows' ≡ puts 0 (each k (bytes_at (map twos (list' ++ drop (m * 3) list)))) rows → EntryReplays model s log rows r rows'
-    replayed-in most p seen z x y =
-        told model s log n most seen p rows (take (m * 3) list) lent replays (drop (m * 3) list) x
+    replayed-in z x y =
+        told model s log n p rows (take (m * 3) list) lent replays (drop (m * 3) list) x
         (y ∙ ap (λ (k : ℕ). puts 0 (each k (bytes_at (map twos (list' ++ drop (m * 3) list)))) rows) z)
+
+    -- a refusal puts nothing
+    pub refused-in : {r : ℕ} → row_count a ≡ 0 → r ≡ replay_number a → EntryReplays model s log rows r rows
+    refused-in z x = replayed-in (ap (λ (k : ℕ). k * 3) (sym z)) x (sym (nothing_put (map twos (list' ++ drop (m * 3) list)) rows))

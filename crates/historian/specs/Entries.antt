@@ -3,6 +3,7 @@ use Rattle.std.specs.Prelude.{ℕ, ◌+◌, ◌*◌, ◌^◌, ◌≡◌, List}
 use Rattle.task.specs.Loops.{over}
 use Rattle.task.specs.Task.{Task}
 use Rattle.fields.specs.Judging.{Check, refusal, unless_refused}
+use Rattle.fields.specs.Refusals.{Answered, Done, Refused}
 use Rattle.values.specs.Values.{bytes_of, values_on}
 use Rattle.sheets.specs.Holding.{task_on}
 use Rattle.run.specs.Run as run
@@ -10,7 +11,7 @@ use Rattle.run.specs.Run.{block_count, rows_of}
 use Rattle.blocks.specs.Flat.{cut_place}
 use Rattle.run.specs.Listing.{listed, row_place}
 use Rattle.running.specs.declared.Answer.{Answer}
-use Rattle.running.specs.declared.Answer.TheVariants.{Plan, NoPlan, Open, Refused}
+use Rattle.running.specs.declared.Answer.TheVariants.{Plan, NoPlan, Open}
 use Rattle.running.specs.Running.{run_checks, returned}
 use Rattle.cut_sheets.specs.CutSheet.{cuts_of}
 use Rattle.asking.specs.Question.{question_checks, estimates_of}
@@ -18,11 +19,11 @@ use Rattle.asking.specs.Question.{question_checks, estimates_of}
 -- ---- a run
 
 -- kind, blocks, steps and value in one number
-unfoldable pub answer_number : Answer → ℕ
+unfoldable pub answer_number : Answered Answer → ℕ
 answer_number (Refused n) = n
-answer_number (Plan cost steps blocks) = 1 * 2 ^ 56 + blocks * 2 ^ 44 + steps * 2 ^ 32 + cost
-answer_number (NoPlan blocks) = 2 * 2 ^ 56 + blocks * 2 ^ 44
-answer_number (Open estimate blocks) = 3 * 2 ^ 56 + blocks * 2 ^ 44 + estimate
+answer_number (Done (Plan cost steps blocks)) = 1 * 2 ^ 56 + blocks * 2 ^ 44 + steps * 2 ^ 32 + cost
+answer_number (Done (NoPlan blocks)) = 2 * 2 ^ 56 + blocks * 2 ^ 44
+answer_number (Done (Open estimate blocks)) = 3 * 2 ^ 56 + blocks * 2 ^ 44 + estimate
 
 -- a run's checks, of the values in the lists of bytes: bytes short of a whole value are none
 abbrev pub entry_checks : List ℕ → ℕ → List ℕ → List ℕ → List Check
@@ -39,7 +40,7 @@ run_entry_outcome a cuts rows = record { answer = a; cuts = cuts; rows = rows }
 -- a run that is made: the bytes of its cuts, and for a plan those of its rows, over the front of the lists
 unfoldable pub made_bytes : Task → run.Outcome → List ℕ → List ℕ → RunEntryOutcome
 made_bytes t o cuts rows =
-    run_entry_outcome (answer_number (returned t (block_count o) o.answer)) (over (bytes_of (listed cut_place o.made)) cuts)
+    run_entry_outcome (answer_number (Done (returned t (block_count o) o.answer))) (over (bytes_of (listed cut_place o.made)) cuts)
     (over (bytes_of (listed row_place (rows_of t o.answer))) rows)
 
 -- a refusal returns only its number and changes nothing lent

@@ -5,9 +5,7 @@ use Rattle.fields.specs.Judging.{Check, refusal, unless_refused}
 use Rattle.sheets.specs.Holding.{task_on}
 use Rattle.cut_sheets.specs.CutSheet.{cuts_of}
 use Rattle.values.specs.Values.{values_on, signed_bytes}
-use Rattle.replay.specs.declared.Replayed.{Replayed}
-use Rattle.replay.specs.declared.Replayed.TheVariants.{Rows, Stopped, Refused}
-use Rattle.replay.specs.Replay.{row_list, replay_checks, refused}
+use Rattle.replay.specs.Replay.{Replayed, Rows, Stopped, Refused, row_list, replay_checks, refused}
 
 -- done is kind 1 with the number of rows in the field of the steps; a refusal's number is the value, and 14 alone has its row in the field of the steps
 unfoldable pub replay_number : Replayed → ℕ

@@ -2,127 +2,133 @@
 // Nothing is asked of the caller.
 #![tactic(auto)]
 
-ghost use Rattle.std.specs.Prelude.{◌≡◌, ◌+◌, ◌-◌, ◌*◌, ◌≤◌, length};
-ghost use Rattle.task.specs.Sizes.{limits, most_values};
-ghost use Rattle.replay.specs.Replay.{row_count, row_named};
+ghost use Rattle.std.specs.Prelude.{Err, ◌≡◌, ◌+◌, ◌*◌, ◌≤◌};
+ghost use Rattle.task.specs.Sizes.{limits};
+ghost use Rattle.replay.specs.Replay.{row_named, told_replay};
+ghost use Rattle.fields.specs.Refusals.{Done};
 ghost use Rattle.running.specs.Counts.{Counted};
 ghost use Rattle.historian.specs.Entries.{answer_number, EntryRuns, EntryAsks};
 ghost use Rattle.historian.specs.ReplayEntry.{replay_number, EntryReplays};
 
-use planner::{Answer, Asked, Replayed, question, replay, run};
+use planner::{Answer, ReplayRefusal, question, replay, run};
 use running::{cut_values, row_values};
 use task::Model;
-use values::{get_values, put_signed, put_values, usable_places};
+use values::{PlaceValues, get_values, put_values};
 
-// What a kind, a block and a step weigh in an answer number: 2^56, 2^44 and 2^32.
-const KIND: u64 = 72057594037927936;
+// How many bytes a value takes, and a place of three of them.
+const VALUE: usize = 4;
 
-const BLOCK: u64 = 17592186044416;
+const PLACE: usize = 12;
 
-const STEP: u64 = 4294967296;
+// What a kind, a block and a step weigh in an answer number.
+const KIND: u64 = 1 << 56;
 
-// Kind, blocks, steps and value in one number.
+const BLOCK: u64 = 1 << 44;
+
+const STEP: u64 = 1 << 32;
+
+// Kind, blocks, steps and value in one number. Counts are cast, since std has no From of a usize.
+#[tactic(auto, unfolding(running::specs::Counts::Counted, crate::specs::Entries::answer_number))]
 fn answer_number(answer: Answer) -> u64
-    requires { Counted answer }
-    ensures { result ≡ answer_number answer }
+    requires { Counted (Done answer) }
+    ensures { result ≡ answer_number (Done answer) }
 {
     match answer {
         Answer::Plan {
             cost,
             steps,
             blocks,
-        } => KIND + blocks as u64 * BLOCK + steps as u64 * STEP + cost as u64,
+        } => KIND + blocks as u64 * BLOCK + steps as u64 * STEP + u64::from(cost),
         Answer::NoPlan { blocks } => 2 * KIND + blocks as u64 * BLOCK,
-        Answer::Open { estimate, blocks } => 3 * KIND + blocks as u64 * BLOCK + estimate as u64,
-        Answer::Refused(number) => number as u64,
+        Answer::Open { estimate, blocks } => 3 * KIND + blocks as u64 * BLOCK + u64::from(estimate),
     }
 }
 
-// A run on lists of bytes, with two lists of numbers to work in.
+// A run on lists of bytes, with two lists of numbers to work in. They are lent, so that their places stay out of the proof; the same below.
 fn run_in(
     sheet: &[u8],
     room: u32,
-    cut_list: &mut [u32],
-    row_list: &mut [u32],
+    cut_list: &mut PlaceValues,
+    row_list: &mut PlaceValues,
     cuts: &mut [u8],
     rows: &mut [u8],
 ) -> u64
-    requires { (length cut_list.old ≡ most_values) × (length row_list.old ≡ most_values) }
     ensures { EntryRuns sheet.now room cuts.old rows.old result cuts.new rows.new }
 {
-    let m = usable_places(Model::BLOCKS - 1, cuts.len() / 12) * 3;
-    let n = usable_places(Model::BLOCKS - 1, rows.len() / 12) * 3;
-    let answer = run(sheet, room, &mut cut_list[..m], &mut row_list[..n]);
-    put_values(cut_list, cut_values(answer), cuts);
-    put_values(row_list, row_values(answer), rows);
-    answer_number(answer)
+    let m = (cuts.len() / PLACE).min(Model::BLOCKS - 1) * 3;
+    let n = (rows.len() / PLACE).min(Model::BLOCKS - 1) * 3;
+    match run(sheet, room, &mut cut_list[..m], &mut row_list[..n]) {
+        Ok(answer) => {
+            put_values(cut_list, cut_values(answer), cuts);
+            put_values(row_list, row_values(answer), rows);
+            answer_number(answer)
+        }
+        Err(refusal) => u64::from(refusal.number()),
+    }
 }
 
 // A question on lists of bytes, with a list of numbers to work in.
-fn ask_in(model: &[u8], sheet: &[u8], states: &[u8], list: &mut [u32], estimates: &mut [u8]) -> u32
-    requires { length list.old ≡ limits.states }
+fn ask_in(
+    model: &[u8],
+    sheet: &[u8],
+    states: &[u8],
+    list: &mut [u32; Model::STATES],
+    estimates: &mut [u8],
+) -> u32
     ensures { EntryAsks model.now sheet.now states.now estimates.old result estimates.new }
 {
-    let n = usable_places(Model::STATES, estimates.len() / 4);
+    let n = (estimates.len() / VALUE).min(Model::STATES);
     match question(model, sheet, states, &mut list[..n]) {
-        Asked::Estimates(asked) => {
+        Ok(asked) => {
             put_values(list, asked, estimates);
             0
         }
-        Asked::Refused(number) => number as u32,
+        Err(refusal) => u32::from(refusal.number()),
     }
 }
 
-// How many values the rows of a replay take: one row for each step.
-fn replayed_values(answer: Replayed) -> usize
-    requires { row_count answer ≤ limits.log }
-    ensures { result ≡ row_count answer * 3 }
+// A refusal's number is the value, and 14 has its row in the field of the steps.
+#[tactic(auto, unfolding(replay::specs::Replay::row_named, crate::specs::ReplayEntry::replay_number))]
+fn replay_refusal(refusal: ReplayRefusal) -> u64
+    requires { row_named (told_replay (Err refusal)) ≤ limits.log + 1 }
+    ensures { result ≡ replay_number (told_replay (Err refusal)) }
 {
-    match answer {
-        Replayed::Rows(rows) => rows * 3,
-        Replayed::Stopped(_) => 0,
-        Replayed::Refused(_) => 0,
-    }
-}
-
-// Done is kind 1 with the number of rows in the field of the steps. A refusal's number is the value, and 14 has its row in the field of the steps.
-fn replay_number(answer: Replayed) -> u64
-    requires { (row_count answer ≤ limits.log) × (row_named answer ≤ limits.log + 1) }
-    ensures { result ≡ replay_number answer }
-{
-    match answer {
-        Replayed::Rows(rows) => KIND + rows as u64 * STEP,
-        Replayed::Stopped(row) => row as u64 * STEP + 14,
-        Replayed::Refused(number) => number as u64,
+    match refusal {
+        ReplayRefusal::Judged(refusal) => u64::from(refusal.number()),
+        ReplayRefusal::Step { row } => row as u64 * STEP + 14,
     }
 }
 
 // A replay on lists of bytes, with two lists of numbers to work in. One value more than a log may have is got, so that 15 is seen.
+// Done is kind 1 with the number of rows in the field of the steps.
 fn replay_in(
     model: &[u8],
     sheet: &[u8],
     log: &[u8],
-    steps: &mut [u32],
-    list: &mut [i32],
+    steps: &mut [u32; Model::LOG + 1],
+    list: &mut [i32; Model::LOG * 3],
     rows: &mut [u8],
 ) -> u64
-    requires { (length steps.old ≡ limits.log + 1) × (length list.old ≡ limits.log * 3) }
     ensures { EntryReplays model.now sheet.now log.now rows.old result rows.new }
 {
-    let n = usable_places(Model::LOG + 1, log.len() / 4);
-    let m = usable_places(Model::LOG, rows.len() / 12) * 3;
+    let n = (log.len() / VALUE).min(Model::LOG + 1);
+    let m = (rows.len() / PLACE).min(Model::LOG) * 3;
     get_values(log, n, steps);
-    let answer = replay(model, sheet, &steps[..n], &mut list[..m]);
-    put_signed(list, replayed_values(answer), rows);
-    replay_number(answer)
+    match replay(model, sheet, &steps[..n], &mut list[..m]) {
+        Ok(count) => {
+            put_values(list, count * 3, rows);
+            KIND + count as u64 * STEP
+        }
+        Err(refusal) => replay_refusal(refusal),
+    }
 }
 
 // A run: three values of four bytes each for a cut and for a row. The answer is one number.
 pub fn elhavir_run(sheet: &[u8], room: u32, cuts: &mut [u8], rows: &mut [u8]) -> u64
     ensures { EntryRuns sheet.now room cuts.old rows.old result cuts.new rows.new }
 {
-    let mut cut_list = [0u32; (Model::BLOCKS - 1) * 3];
-    let mut row_list = [0u32; (Model::BLOCKS - 1) * 3];
+    let mut cut_list: PlaceValues = [0; (Model::BLOCKS - 1) * 3];
+    let mut row_list: PlaceValues = [0; (Model::BLOCKS - 1) * 3];
     run_in(sheet, room, &mut cut_list, &mut row_list, cuts, rows)
 }
 

@@ -21,7 +21,7 @@ use Rattle.run.specs.Run as run
 use Rattle.run.specs.Run.{plan, no_plan, «open», rows_of}
 use Rattle.run.proofs.LengthLaws.{plan-short}
 use Rattle.run.specs.Listing.{listed, row_place}
-use Rattle.running.specs.declared.Answer.TheVariants.{Refused}
+use Rattle.fields.specs.Refusals.{Done, Refused}
 use Rattle.running.specs.Running.{room_check, returned}
 use Rattle.running.proofs.RowLaws.{three}
 use Rattle.lines.specs.Lines.{decimal, labelled, space, line_end, first_line, row_line, row_lines, made_lines, ran_lines, printed, line_bytes, output_bytes}
@@ -59,7 +59,7 @@ module _ (t : Task) where
   made-short : (o : run.Outcome) → ((ss : List Step) → o.answer ≡ plan ss → length ss < limits.blocks) → length (made_lines t o) ≤ output_bytes
   unfolding made_lines row_lines
   made-short o h =
-      let a = returned t (run.block_count o) o.answer in
+      let a = Done (returned t (run.block_count o) o.answer) in
       let vs = values o.answer in
       omega (arith, length-append (first_line a) (row_lines vs), first_short a, each-most (length vs / 3) (row_line vs) (row-short vs), few-rows o.answer h)
 

@@ -2,15 +2,13 @@
 use Prim.Native.Nat.{ℕ, zero, suc, ◌+◌, ◌-◌, ◌*◌, ◌/◌, ◌^◌, ◌≤◌, ◌<◌}
 use native.Mathlib.Nat.{le_trans, pow-le-pow_right}
 use native.Mathlib.Decide.{dec_lt}
-use native.Mathlib.Numerals.{add-one}
 use native.Mathlib.Omega.{arith}
 use mathlib.Core.Path.{◌≡◌, refl, sym, ap, ap₂, ◌∙◌, subst}
-use mathlib.Core.List.{List, [], ◌∷◌, ◌++◌}
+use mathlib.Core.List.{List, ◌++◌}
 use mathlib.Core.Option
 use mathlib.Core.Option.{Option, some, none}
 use lib.Dec.{ltb}
-use lib.ListN.{length, get_or, set, take, length-append}
-use lib.Seq.{take-suc, take-length, length-take-le}
+use lib.ListN.{length, get_or, take, length-append}
 use borrow.Author.Tests.{lt-ltb, ltb-true}
 use Rattle.io.specs.Digits.{last_digits, IsDigitCount}
 use Rattle.task.specs.Loops.{first, when}
@@ -19,7 +17,9 @@ use Rattle.fields.specs.Judging.{each}
 use Rattle.fields.specs.Places.{puts}
 use Rattle.fields.proofs.JudgingLaws.{each_more}
 use Rattle.fields.proofs.PlaceLaws.{puts-append, puts-length}
-use Rattle.lines.specs.Lines.{width, decimal, labelled, space, line_end, row_line, Put, line_bytes}
+use Rattle.values.proofs.ValueLaws.{puts-part}
+use borrow.Rule.Slice.PartMut.{put_mid}
+use Rattle.lines.specs.Lines.{width, decimal, labelled, space, line_end, row_line, Put}
 
 -- one after the other
 pub join : {at r r' : ℕ} {xs ys l l' l'' : List ℕ} → Put at xs l r l' → Put r ys l' r' l'' → Put at (xs ++ ys) l r' l''
@@ -32,29 +32,11 @@ join {at} {r} {r'} {xs} {ys} {l} {l'} p q =
 pub same-long : {at r : ℕ} {xs l l' : List ℕ} → Put at xs l r l' → length l' ≡ length l
 same-long {at} {r} {xs} {l} p = ap length p.bytes ∙ puts-length at xs l
 
--- ---- a text
-module _ (text l₀ : List ℕ) (at : ℕ) where
-  pub record Texted (l : List ℕ) (i : ℕ) : Type 0 where
-    pub within : i ≤ length text
-    pub long : length l ≡ length l₀
-    pub bytes : l ≡ puts at (take i text) l₀
-
-  pub text-none : Texted l₀ 0
-  unfolding puts
-  text-none = record { within = omega arith; long = refl; bytes = refl }
-
-  pub text-more : (l : List ℕ) (i : ℕ) → Texted l i → i < length text → Texted (set l (at + i) (get_or text i 0)) (i + 1)
-  unfolding puts
-  text-more l i w h =
-      let e : set l (at + i) (get_or text i 0) ≡ puts at (take (i + 1) text) l₀ =
-      ap (λ (m : List ℕ). set m (at + i) (get_or text i 0)) w.bytes
-      ∙ sym (rw (add-one, take-suc text i 0 h) (puts-append at (take i text) (get_or text i 0 ∷ []) l₀ ∙ ap (λ (k : ℕ). set (puts at (take i text) l₀) (at + k) (get_or text i 0)) (length-take-le i text w.within))) in
-      record { within = omega arith; long = ap length e ∙ puts-length at (take (i + 1) text) l₀; bytes = e }
-
-  pub text-end : (l : List ℕ) (i : ℕ) → Texted l i → length text ≤ i → Put at text l₀ (at + i) l
-  text-end l i w h =
-      let e : i ≡ length text = omega (arith, w.within) in
-      record { next = ap (λ (k : ℕ). at + k) e; bytes = w.bytes ∙ ap (λ (k : ℕ). puts at (take k text) l₀) e ∙ ap (λ (x : List ℕ). puts at x l₀) (take-length text) }
+-- a text copied to its place
+pub text_put : (text out : List ℕ) (at : ℕ) {part : List ℕ} → at + length text ≤ length out → part ≡ text
+    → Put at text out (at + length text) (put_mid at (at + length text - at) out part)
+text_put text out at h e =
+    record { next = refl; bytes = ap (put_mid at (at + length text - at) out) e ∙ puts-part at _ text out (omega arith) (omega arith) }
 
 -- ---- a number
 abbrev enough : ℕ → ℕ → Option ℕ
@@ -129,31 +111,17 @@ abbrev line_of : ℕ → ℕ → ℕ → ℕ → List ℕ
 line_of i d e f = decimal (i + 1) ++ (labelled space d ++ (labelled space e ++ (labelled space f ++ line_end)))
 
 pub row-joined : (list : List ℕ) (i a b c : ℕ) {at r r₁ r₂ r₃ r₄ : ℕ} {l l₁ l₂ l₃ l₄ l₅ : List ℕ} → a ≡ get_or list (i * 3) 0 → b ≡ get_or list (i * 3 + 1) 0 → c ≡ get_or list (i * 3 + 2) 0 → Put at (decimal (i + 1)) l r₁ l₁
-    → Put r₁ (labelled space a) l₁ r₂ l₂ → Put r₂ (labelled space b) l₂ r₃ l₃ → Put r₃ (labelled space c) l₃ r₄ l₄ → Put r₄ line_end l₄ r l₅ → Put at (row_line list i) l r l₅ × (r ≤ at + line_bytes)
+    → Put r₁ (labelled space a) l₁ r₂ l₂ → Put r₂ (labelled space b) l₂ r₃ l₃ → Put r₃ (labelled space c) l₃ r₄ l₄ → Put r₄ line_end l₄ r l₅ → Put at (row_line list i) l r l₅
 unfolding row_line
-row-joined list i a b c {at} {r} {r₁} {r₂} {r₃} {r₄} {l} {l₁} {l₂} {l₃} {l₄} {l₅} x y z p q s t u = (
-  subst (λ (k : List ℕ). Put at k l r l₅) (ap (λ (k : ℕ). line_of i k b c) x ∙ ap (λ (k : ℕ). line_of i (get_or list (i * 3) 0) k c) y ∙ ap (line_of i (get_or list (i * 3) 0) (get_or list (i * 3 + 1) 0)) z) (join p (join q (join s (join t u)))),
-  omega (arith, decimal-most (i + 1) p, labelled-most space a q, labelled-most space b s, labelled-most space c t, u.next),
-)
+row-joined list i a b c {at} {r} {r₁} {r₂} {r₃} {r₄} {l} {l₁} {l₂} {l₃} {l₄} {l₅} x y z p q s t u =
+    subst (λ (k : List ℕ). Put at k l r l₅) (ap (λ (k : ℕ). line_of i k b c) x ∙ ap (λ (k : ℕ). line_of i (get_or list (i * 3) 0) k c) y ∙ ap (line_of i (get_or list (i * 3) 0) (get_or list (i * 3 + 1) 0)) z)
+    (join p (join q (join s (join t u))))
 
 -- ---- rows
-module _ (list out₀ : List ℕ) (at count : ℕ) where
-  pub record RowsPut (out : List ℕ) (next i : ℕ) : Type 0 where
-    pub within : i ≤ count
-    pub most : next ≤ at + i * line_bytes
-    pub put : Put at (each i (row_line list)) out₀ next out
+pub rows_none : (list out : List ℕ) (at : ℕ) → Put at (each 0 (row_line list)) out at out
+unfolding each puts
+rows_none list out at = record { next = omega arith; bytes = refl }
 
-  pub rows_none : RowsPut out₀ at 0
-  unfolding each puts
-  rows_none = record { within = omega arith; most = omega arith; put = record { next = omega arith; bytes = refl } }
-
-  pub rows_more : {out out' : List ℕ} {next next' : ℕ} (i : ℕ) → RowsPut out next i → i < count → Put next (row_line list i) out next' out' × (next' ≤ next + line_bytes) → RowsPut out' next' (i + 1)
-  rows_more {out} {out'} {next} {next'} i w h p =
-      record {
-        within = omega arith;
-        most = omega (arith, w.most, p.1);
-        put = subst (λ (x : List ℕ). Put at x out₀ next' out') (sym (each_more i (row_line list))) (join w.put p.0);
-      }
-
-  pub rows_end : {out : List ℕ} {next : ℕ} (i : ℕ) → RowsPut out next i → count ≤ i → Put at (each count (row_line list)) out₀ next out × (next ≤ at + count * line_bytes)
-  rows_end {out} {next} i w h = let e : i ≡ count = omega (arith, w.within) in (subst (λ (k : ℕ). Put at (each k (row_line list)) out₀ next out) e w.put, omega (arith, w.most))
+pub rows_more : (list : List ℕ) (i : ℕ) {at next next' : ℕ} {out₀ out out' : List ℕ} → Put at (each i (row_line list)) out₀ next out → Put next (row_line list i) out next' out'
+    → Put at (each (i + 1) (row_line list)) out₀ next' out'
+rows_more list i {at} {next' = next'} {out₀ = out₀} {out' = out'} p q = subst (λ (x : List ℕ). Put at x out₀ next' out') (sym (each_more i (row_line list))) (join p q)

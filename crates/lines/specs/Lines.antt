@@ -7,18 +7,23 @@ use Rattle.task.specs.Task.{Task}
 use Rattle.fields.specs.Bits.{field_at}
 use Rattle.fields.specs.Judging.{refusal, each, unless_refused}
 use Rattle.fields.specs.Places.{puts}
+use Rattle.fields.specs.Refusals.{Answered, Done, Refused}
 use Rattle.sheets.specs.ModelSheet.{sheet_checks}
 use Rattle.sheets.specs.Holding.{task_on}
 use Rattle.run.specs.Run as run
 use Rattle.run.specs.Run.{block_count, rows_of}
 use Rattle.run.specs.Listing.{listed, row_place}
 use Rattle.running.specs.declared.Answer.{Answer}
-use Rattle.running.specs.declared.Answer.TheVariants.{Plan, NoPlan, Open, Refused}
+use Rattle.running.specs.declared.Answer.TheVariants.{Plan, NoPlan, Open}
 use Rattle.running.specs.Running.{room_check, returned}
 
--- how many decimal digits a number has; 20 are enough for 64 bits
+-- as many decimal digits are enough for 64 bits
+abbrev pub most_digits : ℕ
+most_digits = 20
+
+-- how many decimal digits a number has
 unfoldable pub width : ℕ → ℕ
-width n = Option.get_or (first 20 (λ k. when (ltb n (10 ^ (k + 1))) (k + 1))) 20
+width n = Option.get_or (first most_digits (λ k. when (ltb n (10 ^ (k + 1))) (k + 1))) most_digits
 
 unfoldable pub decimal : ℕ → List ℕ
 decimal n = last_digits 10 (width n) n
@@ -64,10 +69,10 @@ abbrev pub line_end : List ℕ
 line_end = 10 ∷ []
 
 -- kind, cost, steps, blocks
-unfoldable pub first_line : Answer → List ℕ
-first_line (Plan cost steps blocks) = labelled plan_text cost ++ (labelled steps_text steps ++ (labelled blocks_text blocks ++ line_end))
-first_line (NoPlan blocks) = labelled no_plan_text blocks ++ line_end
-first_line (Open estimate blocks) = labelled open_text estimate ++ (labelled blocks_text blocks ++ line_end)
+unfoldable pub first_line : Answered Answer → List ℕ
+first_line (Done (Plan cost steps blocks)) = labelled plan_text cost ++ (labelled steps_text steps ++ (labelled blocks_text blocks ++ line_end))
+first_line (Done (NoPlan blocks)) = labelled no_plan_text blocks ++ line_end
+first_line (Done (Open estimate blocks)) = labelled open_text estimate ++ (labelled blocks_text blocks ++ line_end)
 first_line (Refused n) = labelled refused_text n ++ line_end
 
 -- row, step, tenths, tenths left after it: row i of a list, counted from 1
@@ -84,7 +89,7 @@ row_lines list = each (length list / 3) (row_line list)
 
 -- for a run that is made: the first line, and the rows of a plan
 unfoldable pub made_lines : Task → run.Outcome → List ℕ
-made_lines t o = first_line (returned t (block_count o) o.answer) ++ row_lines (listed row_place (rows_of t o.answer))
+made_lines t o = first_line (Done (returned t (block_count o) o.answer)) ++ row_lines (listed row_place (rows_of t o.answer))
 
 -- the sheet is judged, then 7
 unfoldable pub ran_lines : List ℕ → ℕ → List ℕ

@@ -2,38 +2,112 @@
 #![tactic(auto)]
 
 ghost use Rattle.std.specs.Prelude.{◌≡◌, ◌+◌, ◌*◌, ◌<◌, ◌≤◌, length};
-ghost use Rattle.task.specs.Sizes.{limits, step_places, table_places, lands_row, goal_row, start_row};
+ghost use Rattle.task.specs.Sizes.{limits, step_places, table_places, lands_row, start_row};
 ghost use Rattle.task.specs.Task.{Accepted};
 ghost use Rattle.task.specs.Tables.{task_of};
 ghost use Rattle.blocks.specs.Blocks.{only};
 ghost use Rattle.blocks.specs.Flat.{row_of, laid};
-ghost use Rattle.blocks.specs.Masks.{lies, all_lie, passes, mark_set, land_set, need_set, lands_set, goal_set, start_set};
+ghost use Rattle.blocks.specs.Masks.{lies, all_lie, passes, set_of, want_set, lands_set, start_set};
 ghost use Rattle.blocks.specs.Masks.{lands_in, goals_in, tables_of, leads_by, goal_by};
+ghost use Rattle.masks.specs.Tables.{Tabled, Unfilled, Filled};
 
-use task::{Block, BlockSets, Mark, Model, Position, Step, Tables};
+use task::{Block, BlockSets, Costs, Model, Position, Shape, Step, TaskSets};
 
-// The position of a mark as a set.
-fn mark_set(mark: Mark) -> u32
-    ensures { result ≡ mark_set mark }
-{
-    let m = mark.0;
-    if m == 0 {
-        return 0;
-    }
-    if 32 < m {
-        return 0;
-    }
-    1 << (m - 1)
+// A task as code works on it: how many columns and steps it has, its sets row by row, what each step costs, and how many positions each column has.
+#[derive(Drop)]
+pub struct Tables {
+    pub shape: Shape,
+    pub rows: TaskSets,
+    pub costs: Costs,
+    pub sizes: [u8; Model::COLUMNS],
 }
 
-// Where a step with this need and this effect lands, as a set.
-fn land_set(need: Mark, effect: Mark) -> u32
-    ensures { result ≡ land_set need effect }
-{
-    if effect.0 == 0 {
-        return mark_set(need);
+impl Tables {
+    // Of no task yet: nothing but zeros.
+    pub fn new() -> Tables
+        ensures { Unfilled result }
+    {
+        Tables {
+            shape: Shape {
+                columns: 0,
+                steps: 0,
+            },
+            rows: [0; (2 * Model::STEPS + 2) * Model::COLUMNS],
+            costs: [0; Model::STEPS],
+            sizes: [0; Model::COLUMNS],
+        }
     }
-    mark_set(effect)
+
+    // The tables of a model, in place of what stood there.
+    pub fn fill(&mut self, model: &Model)
+        requires { Accepted (task_of model.now) }
+        ensures filled { Filled model.now self.old.rows self.new }
+        ensures tabled { Tabled (task_of model.now) self.new }
+    {
+        fill_rows(model, &mut self.rows);
+        self.shape = Shape {
+            columns: model.columns,
+            steps: model.steps,
+        };
+        self.costs = model.cost;
+        self.sizes = model.size;
+    }
+
+    // Whether the step leads from block a to block b.
+    pub fn leads(&self, step: Step, a: Block, b: Block, sets: &BlockSets) -> bool
+        requires { (step.0 < limits.steps) × (a.0 < limits.blocks) × (b.0 < limits.blocks) }
+        ensures { result ≡ leads_by self.now.shape.columns self.now.rows (lands_in self.now.rows) sets.now step.0 a.0 b.0 }
+    {
+        let need = usize::from(step.0) * Model::COLUMNS;
+        let land = (Model::LANDS + usize::from(step.0)) * Model::COLUMNS;
+        let ra = usize::from(a.0) * Model::COLUMNS;
+        let rb = usize::from(b.0) * Model::COLUMNS;
+        (0..self.shape.columns).all(|j| {
+            passes(
+                self.rows[need + j],
+                self.rows[land + j],
+                sets[ra + j],
+                sets[rb + j],
+            )
+        })
+    }
+
+    // Whether block a is a goal block.
+    pub fn is_goal_block(&self, a: Block, sets: &BlockSets) -> bool
+        requires { a.0 < limits.blocks }
+        ensures { result ≡ goal_by self.now.shape.columns (goals_in self.now.rows) sets.now a.0 }
+    {
+        let ra = usize::from(a.0) * Model::COLUMNS;
+        all_lie(
+            self.shape.columns,
+            Model::GOAL * Model::COLUMNS,
+            ra,
+            &self.rows,
+            sets,
+        )
+    }
+}
+
+// What each step needs, where each lands, the goal, and the start as it stands.
+fn fill_rows(model: &Model, rows: &mut TaskSets)
+    requires { Accepted (task_of model.now) }
+    ensures { rows.new ≡ tables_of model.now rows.old }
+{
+    fill_wants(&model.need, 0, rows);
+    fill_lands(model, rows);
+    fill_wants(&model.goal, Model::GOAL, rows);
+    fill_start(model, rows);
+}
+
+// A need or a goal as a set: nothing where there is none.
+#[tactic(auto, unfolding(blocks::specs::Masks::set_of, blocks::specs::Blocks::only))]
+fn set_of(wanted: Option<Position>) -> u32
+    ensures { result ≡ set_of wanted }
+{
+    match wanted {
+        Some(p) if usize::from(p.0) < Model::POSITIONS => alone(p),
+        _ => 0,
+    }
 }
 
 // The set of one position.
@@ -45,67 +119,33 @@ fn alone(position: Position) -> u32
     1 << p
 }
 
-// What every step needs, as sets.
-fn fill_needs(model: Model, tables: &mut Tables)
-    requires { length tables.old ≡ table_places }
-    ensures { tables.new ≡ laid step_places (need_set model) 0 tables.old }
+// What needs or a goal want, as sets, from a row on.
+fn fill_wants(wanted: &[Option<Position>], row: usize, rows: &mut TaskSets)
+    requires { row_of row + length wanted.now ≤ table_places }
+    ensures { rows.new ≡ laid (length wanted.now) (want_set wanted.now) (row_of row) rows.old }
 {
-    let mut i: usize = 0;
-    while i < Model::STEPS * Model::COLUMNS {
-        tables[i] = mark_set(model.need[i]);
-        i += 1;
+    for (i, w) in wanted.iter().enumerate() {
+        rows[row * Model::COLUMNS + i] = set_of(*w);
     }
 }
 
-// Where every step lands, as sets.
-fn fill_lands(model: Model, tables: &mut Tables)
-    requires { length tables.old ≡ table_places }
-    ensures { tables.new ≡ laid step_places (lands_set model) (row_of lands_row) tables.old }
+// Where every step lands, as sets. By index, since two tables are read at each place.
+fn fill_lands(model: &Model, rows: &mut TaskSets)
+    ensures { rows.new ≡ laid step_places (lands_set model.now) (row_of lands_row) rows.old }
 {
-    let row = Model::LANDS * Model::COLUMNS;
-    let mut i: usize = 0;
-    while i < Model::STEPS * Model::COLUMNS {
-        tables[row + i] = land_set(model.need[i], model.effect[i]);
-        i += 1;
-    }
-}
-
-// The goal as sets.
-fn fill_goal(model: Model, tables: &mut Tables)
-    requires { length tables.old ≡ table_places }
-    ensures { tables.new ≡ laid limits.columns (goal_set model) (row_of goal_row) tables.old }
-{
-    let row = Model::GOAL * Model::COLUMNS;
-    let mut j: usize = 0;
-    while j < Model::COLUMNS {
-        tables[row + j] = mark_set(model.goal[j]);
-        j += 1;
+    for i in 0..Model::STEPS * Model::COLUMNS {
+        rows[Model::LANDS * Model::COLUMNS + i] = set_of(model.effect[i].or(model.need[i]));
     }
 }
 
 // The start as it stands: sets of one position each.
-fn fill_start(model: Model, tables: &mut Tables)
-    requires { Accepted (task_of model) × (length tables.old ≡ table_places) }
-    ensures { tables.new ≡ laid model.columns (start_set model) (row_of start_row) tables.old }
+fn fill_start(model: &Model, rows: &mut TaskSets)
+    requires { Accepted (task_of model.now) }
+    ensures { rows.new ≡ laid model.now.columns (start_set model.now) (row_of start_row) rows.old }
 {
-    let columns = model.columns;
-    let row = Model::START * Model::COLUMNS;
-    let mut j: usize = 0;
-    while j < columns {
-        tables[row + j] = alone(model.start[j]);
-        j += 1;
+    for j in 0..model.columns {
+        rows[Model::START * Model::COLUMNS + j] = alone(model.start[j]);
     }
-}
-
-// The tables of a model.
-pub fn fill_tables(model: Model, tables: &mut Tables)
-    requires { Accepted (task_of model) × (length tables.old ≡ table_places) }
-    ensures { tables.new ≡ tables_of model tables.old }
-{
-    fill_needs(model, tables);
-    fill_lands(model, tables);
-    fill_goal(model, tables);
-    fill_start(model, tables);
 }
 
 // Whether a step leads from one set to another, by its need and its landing there.
@@ -113,47 +153,7 @@ pub fn fill_tables(model: Model, tables: &mut Tables)
 fn passes(need: u32, land: u32, a: u32, b: u32) -> bool
     ensures { result ≡ passes need land a b }
 {
-    if a & need != need {
-        return false;
-    }
-    if b & land != land {
-        return false;
-    }
-    if land != 0 {
-        return true;
-    }
-    a & b != 0
-}
-
-// Whether the step leads from block a to block b.
-pub fn leads(
-    columns: usize,
-    step: Step,
-    a: Block,
-    b: Block,
-    tables: &Tables,
-    sets: &BlockSets,
-) -> bool
-    requires { (columns ≤ limits.columns) × (step.0 < limits.steps) × (a.0 < limits.blocks) × (b.0 < limits.blocks) }
-    ensures { result ≡ leads_by columns tables.now (lands_in tables.now) sets.now step.0 a.0 b.0 }
-{
-    let need = step.0 as usize * Model::COLUMNS;
-    let land = (Model::LANDS + step.0 as usize) * Model::COLUMNS;
-    let ra = a.0 as usize * Model::COLUMNS;
-    let rb = b.0 as usize * Model::COLUMNS;
-    let mut j: usize = 0;
-    while j < columns {
-        if !passes(
-            tables[need + j],
-            tables[land + j],
-            sets[ra + j],
-            sets[rb + j],
-        ) {
-            return false;
-        }
-        j += 1;
-    }
-    true
+    lies(need, a) && lies(land, b) && (land != 0 || a & b != 0)
 }
 
 // Whether every wanted position lies in a set.
@@ -163,26 +163,11 @@ pub fn lies(wanted: u32, a: u32) -> bool
     a & wanted == wanted
 }
 
-// Whether n sets from place i on lie in those from place k on, each in its own.
+// Whether n sets from place i on lie in those from place k on, each in its own. The places where they begin are given, as the definition has them, so that a
+// caller's proof is this clause.
 pub fn all_lie(n: usize, i: usize, k: usize, wants: &[u32], sets: &[u32]) -> bool
     requires { (i + n ≤ length wants.now) × (k + n ≤ length sets.now) }
     ensures { result ≡ all_lie n i k wants.now sets.now }
 {
-    let mut j: usize = 0;
-    while j < n {
-        if !lies(wants[i + j], sets[k + j]) {
-            return false;
-        }
-        j += 1;
-    }
-    true
-}
-
-// Whether block a is a goal block.
-pub fn is_goal_block(columns: usize, a: Block, tables: &Tables, sets: &BlockSets) -> bool
-    requires { (columns ≤ limits.columns) × (a.0 < limits.blocks) }
-    ensures { result ≡ goal_by columns (goals_in tables.now) sets.now a.0 }
-{
-    let ra = a.0 as usize * Model::COLUMNS;
-    all_lie(columns, Model::GOAL * Model::COLUMNS, ra, tables, sets)
+    (0..n).all(|j| lies(wants[i + j], sets[k + j]))
 }

@@ -10,6 +10,7 @@ use contract.Lifetimes.{Lfts}
 use contract.Monad.{Fun, fact}
 use denote.Triple.Clauses.{AtExit}
 use borrow.Fn.World.{ArgsD, ResD}
+use Rattle.fields.specs.Refusals.{told}
 use Rattle.rows.specs.Rows.{PutsRows, RowRuns}
 use Rattle.rows.specs.contracts.put_rows as put-rows
 use Rattle.rows.specs.contracts.run as run
@@ -33,5 +34,5 @@ module _ {M : Type 1} {𝓤 : Ura M} (𝓛 : Logic 𝓤) (mem : Memory → SProp
 
     pub run-promises : (r : ResD run.signature κs) (left : AtExit run.ended κs)
         → (run.clauses 𝓛 mem meant κs given).ensures tt r left
-        ≡ fact 𝓤 (RowRuns given.0.now given.1.0 given.1.1.0.now given.1.1.1.0.now r left.1.1.0.now left.1.1.1.0.now)
+        ≡ fact 𝓤 (RowRuns given.0.now given.1.0 given.1.1.0.now given.1.1.1.0.now (told r) left.1.1.0.now left.1.1.1.0.now)
     run-promises r left = refl

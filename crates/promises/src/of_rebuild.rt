@@ -1,9 +1,10 @@
+ghost use Rattle.fields.specs.Refusals.{told};
 ghost use Rattle.cut_reading.specs.Rebuilding.{Rebuilds};
 
-use planner::CutsRebuilt;
+use planner::Refusal;
 
-pub fn rebuild(model: &[u8], sheet: &[u8], cuts: &mut [u32]) -> CutsRebuilt
-    ensures { Rebuilds model.now sheet.now cuts.old result cuts.new }
+pub fn rebuild(model: &[u8], sheet: &[u8], cuts: &mut [u32]) -> Result<usize, Refusal>
+    ensures { Rebuilds model.now sheet.now cuts.old (told result) cuts.new }
 {
     planner::rebuild(model, sheet, cuts)
 }

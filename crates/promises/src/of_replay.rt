@@ -1,9 +1,14 @@
-ghost use Rattle.replay.specs.Replay.{Replays};
+ghost use Rattle.replay.specs.Replay.{Replays, told_replay};
 
-use planner::Replayed;
+use planner::ReplayRefusal;
 
-pub fn replay(model: &[u8], sheet: &[u8], log: &[u32], rows: &mut [i32]) -> Replayed
-    ensures { Replays model.now sheet.now log.now rows.old result rows.new }
+pub fn replay(
+    model: &[u8],
+    sheet: &[u8],
+    log: &[u32],
+    rows: &mut [i32],
+) -> Result<usize, ReplayRefusal>
+    ensures { Replays model.now sheet.now log.now rows.old (told_replay result) rows.new }
 {
     planner::replay(model, sheet, log, rows)
 }

@@ -1,6 +1,7 @@
+ghost use Rattle.fields.specs.Refusals.{told};
 ghost use Rattle.writing.specs.Writing.{WritesModel};
 
-use planner::SheetWritten;
+use planner::Refusal;
 
 pub fn write_model(
     columns: usize,
@@ -9,8 +10,8 @@ pub fn write_model(
     costs: &[u16],
     marks: &[u8],
     sheet: &mut [u8],
-) -> SheetWritten
-    ensures { WritesModel columns steps frame.now costs.now marks.now sheet.old result
+) -> Result<usize, Refusal>
+    ensures { WritesModel columns steps frame.now costs.now marks.now sheet.old (told result)
         sheet.new }
 {
     planner::write_model(columns, steps, frame, costs, marks, sheet)

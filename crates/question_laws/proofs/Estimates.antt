@@ -28,8 +28,8 @@ use Rattle.cut_sheets.specs.CutSheet.{tail_of, cut_sheet_checks, cuts_of}
 use Rattle.cut_sheets.proofs.CutRoundLaws.{own-accepted}
 use Rattle.cut_sheets.proofs.CutSheetLaws.{sheet-accepted}
 use Rattle.cut_sheets.proofs.JudgeLaws.{count-below}
-use Rattle.asking.specs.declared.Asked.{Asked}
-use Rattle.asking.specs.declared.Asked.TheVariants.{Estimates, Refused}
+use Rattle.fields.specs.Refusals as refusals
+use Rattle.fields.specs.Refusals.{Done, Refused}
 use Rattle.asking.specs.Question.{QuestionOutcome, state_in, states_in, bad_states, estimate_at, estimates_of, valued, question_checks, question_outcome, number, asking, Asks}
 use Rattle.asking.proofs.AnswerLaws.{state-good}
 use Rattle.question_laws.proofs.Refusals.{asker}
@@ -44,8 +44,8 @@ mark-highest : (o : Option Tenths) → ((e : Tenths) → o ≡ some e → e < li
 mark-highest none h = omega arith
 mark-highest (some e) h = omega (arith, h e refl)
 
-written : Asked → ℕ
-written (Estimates n) = n
+written : refusals.Answered ℕ → ℕ
+written (Done n) = n
 written (Refused n) = 0
 
 -- ---- accepted sheets, whoever asks
@@ -113,7 +113,7 @@ module _ (model s : List ℕ) (fine : refusal (cut_sheet_checks model s) ≡ 0) 
     value-most = mark-highest (estimate t cs x) bounded
 
 -- ---- a question that was answered
-module _ (model s states est : List ℕ) {n : ℕ} {next : List ℕ} (done : Asks model s states est (Estimates n) next) where
+module _ (model s states est : List ℕ) {n : ℕ} {next : List ℕ} (done : Asks model s states est (Done n) next) where
   abbrev m : Task
   m = task_on model
 
@@ -131,7 +131,7 @@ module _ (model s states est : List ℕ) {n : ℕ} {next : List ℕ} (done : Ask
   good : bad_states m states ≡ false
   good = (passed 11 (bad_states m states) _ (λ z. omega arith) parts.1).0
 
-  whole : question_outcome (Estimates n) next ≡ question_outcome (Estimates (states_in m states)) (over (estimates_of m (cuts_of s) states) est)
+  whole : question_outcome (Done n) next ≡ question_outcome (Done (states_in m states)) (over (estimates_of m (cuts_of s) states) est)
   unfolding asking
   whole = simp (eq-eqb (refusal (question_checks model s states est)) 0 quiet) at done
 

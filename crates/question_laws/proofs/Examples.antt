@@ -16,7 +16,7 @@ use Rattle.cut_sheets.specs.CutPart as part
 use Rattle.cut_sheets.specs.CutSheet as cut
 use Rattle.sheet_laws.proofs.Examples.{rethread}
 use Rattle.cut_laws.proofs.Examples.{cut_part, no_cuts}
-use Rattle.asking.specs.declared.Asked.TheVariants.{Estimates, Refused}
+use Rattle.fields.specs.Refusals.{Done, Refused}
 use Rattle.asking.specs.Question as question
 use Rattle.asking.specs.Question.{QuestionOutcome, question_outcome, asking}
 
@@ -47,9 +47,9 @@ pub answer : Posed → QuestionOutcome
 answer q = asking rethread (rethread ++ q.part) q.states q.places
 
 pub answered-examples : map answer posed
-    ≡ question_outcome (Estimates 3) (110 ∷ 70 ∷ 0 ∷ 7 ∷ [])
-    ∷ question_outcome (Estimates 1) (0 ∷ 7 ∷ [])
-    ∷ question_outcome (Estimates 0) (7 ∷ [])
+    ≡ question_outcome (Done 3) (110 ∷ 70 ∷ 0 ∷ 7 ∷ [])
+    ∷ question_outcome (Done 1) (0 ∷ 7 ∷ [])
+    ∷ question_outcome (Done 0) (7 ∷ [])
     ∷ question_outcome (Refused 11) (7 ∷ 7 ∷ [])
     ∷ question_outcome (Refused 11) (7 ∷ [])
     ∷ question_outcome (Refused 6) (7 ∷ [])

@@ -1,1 +1,2 @@
 pub mod ReadingLaws
+pub mod AnswerLaws

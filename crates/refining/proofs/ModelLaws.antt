@@ -1,9 +1,10 @@
--- Block 0 alone stands in the array, and the start lies there.
+-- Block 0 stands alone, and the start lies there.
 use mathlib.Core.Path.{◌≡◌, refl, ◌∙◌}
 use mathlib.Core.Bool.{true}
-use mathlib.Core.List.{List, [], ◌∷◌}
+use mathlib.Core.List.{[], ◌∷◌}
 use mathlib.Core.Option.{some}
 use Prim.Native.Nat.{ℕ}
+use Rattle.cutting.specs.declared.Blocks.{Blocks}
 use Rattle.task.specs.Task.{Task, Accepted, block, start}
 use Rattle.task.proofs.TaskLaws.{start-state}
 use Rattle.blocks.specs.Blocks.{whole, cuts_ok, cut_all, accepted, blocks_of, block_of}
@@ -19,8 +20,8 @@ module _ (t : Task) (v : Accepted t) where
   start_first : block_of t (blocks_of t []) (start t) ≡ some (block 0)
   start_first = rw (cuts-none, followed-none) at (follow-finds t v [] 0 (rw cuts-none none-ok) (start t) (start-state t v))
 
-  pub first-parted : (columns : ℕ) (sets : List ℕ) → blocks_in columns 1 sets ≡ whole t ∷ [] → Parted t [] columns 1 (block 0) sets
-  first-parted columns sets e = record { ok = none-ok; blocks = e ∙ whole-only; from = start_first }
+  pub first-parted : (columns : ℕ) (bs : Blocks) → blocks_in columns bs.count bs.sets ≡ whole t ∷ [] → Parted t [] columns (block 0) bs
+  first-parted columns bs e = record { ok = none-ok; blocks = e ∙ whole-only; from = start_first }
     where
       whole-only : whole t ∷ [] ≡ blocks_of t []
       whole-only = unfold blocks_of cut_all in refl

@@ -1,6 +1,7 @@
 -- 02, order 7: "Given a model's two sheets and the recorded list of up to 255 step numbers, taken from its start, give for each row the tenths paid, the
 -- ground won and the detour." Row i here is counted from 0.
 use Rattle.std.specs.Prelude.{ℕ, zero, suc, ◌+◌, ◌*◌, ◌≡◌, Bool, true, false, not, ◌&&◌, cond, List, [], ◌∷◌, ◌++◌, eqb, ltb, ℤ, pos, ◌-ℤ◌, length, get_or}
+use Rattle.std.specs.Prelude.{Result, Ok, Err}
 use Rattle.std.proofs.Math.Option
 use Rattle.std.proofs.Math.Option.{Option, none, some, map}
 use Rattle.task.specs.declared.Step.{Step}
@@ -13,8 +14,9 @@ use Rattle.sheets.specs.Holding.{task_on}
 use Rattle.blocks.specs.declared.Cut.{Cut}
 use Rattle.distances.specs.Distances.{estimate}
 use Rattle.cut_sheets.specs.CutSheet.{cut_sheet_checks, cuts_of}
-use Rattle.replay.specs.declared.Replayed.{Replayed}
-use Rattle.replay.specs.declared.Replayed.TheVariants.{Rows, Stopped, Refused}
+use Rattle.fields.specs.Refusals as refusals
+use Rattle.replay.specs.declared.ReplayRefusal.{ReplayRefusal}
+use Rattle.replay.specs.declared.ReplayRefusal.TheVariants as why
 
 -- ---- the states along a log
 
@@ -94,6 +96,18 @@ log_checks t log = check 15 (ltb limits.log (length log)) ∷ check 14 (not (eqb
 
 unfoldable pub replay_checks : {A : Type 0} → List ℕ → List ℕ → List ℕ → List A → List Check
 replay_checks model s log rows = cut_sheet_checks model s ++ (log_checks (task_on model) log ++ (too_few (length log * 3) rows ∷ []))
+
+-- an answer: how many rows were written; the first row, counted from 1, whose step is unknown or cannot be taken; or any other refusal, by its number
+pub data Replayed : Type 0 where
+  Rows : ℕ → Replayed
+  Stopped : ℕ → Replayed
+  Refused : ℕ → Replayed
+
+-- what code answers
+abbrev pub told_replay : Result ℕ ReplayRefusal → Replayed
+told_replay (Ok n) = Rows n
+told_replay (Err (why.Judged r)) = Refused (refusals.number r)
+told_replay (Err (why.Step row)) = Stopped row
 
 -- an answer's refusal number, 0 for none; the row that 14 comes with; and how many rows were written
 unfoldable pub number : Replayed → ℕ

@@ -20,9 +20,8 @@ use Rattle.cut_sheets.specs.CutPart as part
 use Rattle.cut_sheets.specs.CutSheet as cut
 use Rattle.sheet_laws.proofs.Examples.{rethread}
 use Rattle.cut_laws.proofs.Examples.{cut_part}
-use Rattle.replay.specs.declared.Replayed.TheVariants.{Rows, Stopped, Refused}
 use Rattle.replay.specs.Replay as replay
-use Rattle.replay.specs.Replay.{dash, ReplayOutcome, replay_outcome, replaying}
+use Rattle.replay.specs.Replay.{Rows, Stopped, Refused, dash, ReplayOutcome, replay_outcome, replaying}
 
 -- a replay: a model, a cut part behind it, a log, and places for rows
 pub record Posed : Type 0 where

@@ -19,8 +19,7 @@ use Rattle.sheets.specs.Holding.{task_on}
 use Rattle.sheets.specs.LentTables.{too_few}
 use Rattle.cut_sheets.specs.CutSheet.{cut_sheet_checks, cuts_of}
 use Rattle.cut_laws.proofs.Refusals.{sheets_numbers, sheets-numbers}
-use Rattle.replay.specs.declared.Replayed.TheVariants.{Rows, Stopped, Refused}
-use Rattle.replay.specs.Replay.{bad_row, row_list, log_checks, replay_checks, number, refused, ReplayOutcome, replay_outcome, replaying}
+use Rattle.replay.specs.Replay.{Rows, Stopped, Refused, bad_row, row_list, log_checks, replay_checks, number, refused, ReplayOutcome, replay_outcome, replaying}
 
 -- which numbers a replay can get
 abbrev pub numbers : List ℕ

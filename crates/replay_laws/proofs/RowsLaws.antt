@@ -21,9 +21,8 @@ use Rattle.blocks.specs.Blocks.{accepted}
 use Rattle.sheets.specs.Holding.{task_on}
 use Rattle.cut_sheets.specs.CutSheet.{cut_sheet_checks, cuts_of}
 use Rattle.question_laws.proofs.Estimates.{model-accepted, cuts-accepted, few}
-use Rattle.replay.specs.declared.Replayed.TheVariants.{Rows}
 use Rattle.replay.specs.Replay.{before, bad_row, paid, far, dashed, won, detour, dash, figure, row_values, row_list}
-use Rattle.replay.specs.Replay.{replay_checks, number, row_count, ReplayOutcome, replay_outcome, Replays}
+use Rattle.replay.specs.Replay.{Rows, replay_checks, number, row_count, ReplayOutcome, replay_outcome, Replays}
 use Rattle.replay.proofs.SignedLaws.{not-below, sum-ext}
 use Rattle.replay.proofs.RowLaws as row
 use Rattle.replay.proofs.RowLaws.{largest, tenths_at}

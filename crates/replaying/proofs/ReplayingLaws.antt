@@ -1,5 +1,7 @@
 -- Laws for the code that replays a log: each refusal is the one that the definition gives, and what is left is the rows.
-use Prim.Native.Nat.{ℕ, ◌*◌, ◌≤◌, ◌<◌}
+use Rattle.std.specs.Prelude.{Some, None}
+use Rattle.along.specs.Along.{row_of}
+use Prim.Native.Nat.{zero, suc, ℕ, ◌*◌, ◌≤◌, ◌<◌}
 use native.Mathlib.Omega.{arith}
 use mathlib.Core.Path.{◌≡◌, refl, sym, ap, ◌∙◌}
 use mathlib.Core.Bool.{not, cond}
@@ -21,9 +23,8 @@ use Rattle.cut_sheets.specs.CutSheet.{tail_of, cut_sheet_checks, cuts_of}
 use Rattle.cut_reading.specs.Rebuilding.{SheetJudged}
 use Rattle.cut_reading.proofs.RebuildLaws.{sheets-ok}
 use Rattle.cut_laws.proofs.Refusals.{sheets_numbers, sheets-numbers}
-use Rattle.replay.specs.declared.Replayed.{Replayed}
-use Rattle.replay.specs.declared.Replayed.TheVariants.{Rows, Stopped, Refused}
-use Rattle.replay.specs.Replay.{bad_row, row_list, log_checks, replay_checks, refused, replay_outcome, replaying, Replays}
+use Rattle.cutting.specs.declared.Blocks.{Blocks}
+use Rattle.replay.specs.Replay.{Replayed, Rows, Stopped, Refused, bad_row, row_list, log_checks, replay_checks, refused, replay_outcome, replaying, Replays}
 use Rattle.replaying.specs.Replaying.{Sheets, replayed_on}
 
 -- a number other than 14 names no row
@@ -41,33 +42,41 @@ module _ (m s log : List ℕ) (rows : List ℤ) where
   abbrev after : List Check
   after = log_checks (task_on m) log ++ (too_few (length log * 3) rows ∷ [])
 
-  module _ {r : ℕ} {exit : List ℕ} (j : SheetJudged m s r exit) where
-    -- a refusal of the sheets, which is never 14
-    pub sheets-refused : (r ≡ 0 → ⊥) → Replays m s log rows (Refused r) rows
+  -- a refusal of the sheets, which is never 14
+  pub sheets-refused : {r : ℕ} {exit : Blocks} → SheetJudged m s r exit → (r ≡ 0 → ⊥) → Replays m s log rows (Refused r) rows
+  unfolding replay_checks
+  sheets-refused {r} j z =
+      refusing (j.refused ∙ sym (refusal-append (cut_sheet_checks m s) after ∙ stop (refusal (cut_sheet_checks m s)) _ (λ q. z (j.refused ∙ q)))) z
+      (λ q. let g = gives (λ n. not (eqb n 14)) sheets_numbers refl (cut_sheet_checks m s) (sheets-numbers m s) in eqb-false r 14 (not-true _ (rw j.refused g)) q)
+
+  module _ {exit : Blocks} (j : SheetJudged m s 0 exit) where
+    left : refusal (replay_checks m s log rows) ≡ refusal after
     unfolding replay_checks
-    sheets-refused z =
-        refusing (j.refused ∙ sym (refusal-append (cut_sheet_checks m s) after ∙ stop (refusal (cut_sheet_checks m s)) _ (λ q. z (j.refused ∙ q)))) z
-        (λ q. let g = gives (λ n. not (eqb n 14)) sheets_numbers refl (cut_sheet_checks m s) (sheets-numbers m s) in eqb-false r 14 (not-true _ (rw j.refused g)) q)
+    left = refusal-append (cut_sheet_checks m s) after ∙ go (refusal (cut_sheet_checks m s)) _ (sym j.refused)
 
-    module _ (z : r ≡ 0) where
-      left : refusal (replay_checks m s log rows) ≡ refusal after
-      unfolding replay_checks
-      left = refusal-append (cut_sheet_checks m s) after ∙ go (refusal (cut_sheet_checks m s)) _ (sym j.refused ∙ z)
+    pub long-refused : limits.log < length log → Replays m s log rows (Refused 15) rows
+    unfolding log_checks
+    long-refused h = refusing (applies 15 (ltb limits.log (length log)) _ (lt-ltb _ _ h) (λ q. omega arith) ∙ sym left) (λ q. omega arith) (λ q. omega arith)
 
-      pub long-refused : limits.log < length log → Replays m s log rows (Refused 15) rows
-      unfolding log_checks
-      long-refused h = refusing (applies 15 (ltb limits.log (length log)) _ (lt-ltb _ _ h) (λ q. omega arith) ∙ sym left) (λ q. omega arith) (λ q. omega arith)
+    pub fine : Sheets m (tail_of s) exit
+    fine = let k = sheets-ok m s [] j in record { model-fine = k.0; part-fine = k.2; made = j.made refl }
 
-      pub fine : Sheets m (tail_of s) exit
-      fine = let k = sheets-ok m s [] j z in record { model-fine = k.0; part-fine = k.2; made = j.made z }
+    -- what is left is the rest of the replay
+    pub ends : length log ≤ limits.log → {a : Replayed} {next : List ℤ} → replay_outcome a next ≡ replayed_on (task_on m) (cuts_of s) log rows → Replays m s log rows a next
+    unfolding replaying replayed_on log_checks
+    ends h e =
+        e
+        ∙ ap (λ (n : ℕ). cond (eqb n 0) (replay_outcome (Rows (length log)) (over (row_list (task_on m) (cuts_of s) log) rows)) (replay_outcome (refused (task_on m) log n) rows))
+        (passes 15 (ltb limits.log (length log)) _ (le-ltb _ _ h) refl ∙ sym left)
 
-      -- what is left is the rest of the replay
-      pub ends : length log ≤ limits.log → {a : Replayed} {next : List ℤ} → replay_outcome a next ≡ replayed_on (task_on m) (cuts_of s) log rows → Replays m s log rows a next
-      unfolding replaying replayed_on log_checks
-      ends h e =
-          e
-          ∙ ap (λ (n : ℕ). cond (eqb n 0) (replay_outcome (Rows (length log)) (over (row_list (task_on m) (cuts_of s) log) rows)) (replay_outcome (refused (task_on m) log n) rows))
-          (passes 15 (ltb limits.log (length log)) _ (le-ltb _ _ h) refl ∙ sym left)
+-- ---- the row that stops code, as a number
+pub named : (n : ℕ) {row : ℕ} → Some row ≡ row_of n → (row ≡ n) × (row ≡ 0 → ⊥)
+named zero e = cc
+named (suc n) {row} e = let q : row ≡ suc n = cc in (q, λ z. omega (arith, q, z))
+
+pub unnamed : (n : ℕ) → None ≡ row_of n → n ≡ 0
+unnamed zero e = refl
+unnamed (suc n) e = cc
 
 -- ---- the log and the places
 module _ (t : Task) (cs : List Cut) (log : List ℕ) (rows : List ℤ) where

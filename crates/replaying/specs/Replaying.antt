@@ -9,14 +9,14 @@ use Rattle.sheets.specs.LentTables.{too_few}
 use Rattle.blocks.specs.declared.Cut.{Cut}
 use Rattle.cut_sheets.specs.CutPart.{cut_on, count_of, judge_cuts}
 use Rattle.cut_sheets.specs.Judged.{Made}
-use Rattle.replay.specs.declared.Replayed.TheVariants.{Rows}
-use Rattle.replay.specs.Replay.{bad_row, row_list, refused, ReplayOutcome, replay_outcome}
+use Rattle.cutting.specs.declared.Blocks.{Blocks}
+use Rattle.replay.specs.Replay.{Rows, bad_row, row_list, refused, ReplayOutcome, replay_outcome}
 
--- accepted sheets: the model's, and the part with the cuts, whose blocks stand in the array
-pub record Sheets (model part sets : List ℕ) : Type 0 where
+-- accepted sheets: the model's, and the part with the cuts, with their blocks
+pub record Sheets (model part : List ℕ) (blocks : Blocks) : Type 0 where
   pub model-fine : judge_sheet model ≡ 0
   pub part-fine : judge_cuts (task_on model) part ≡ 0
-  pub made : Made (task_on model) (cut_on part) (column_count (task_on model)) (count_of part) sets
+  pub made : Made (task_on model) (cut_on part) (column_count (task_on model)) (count_of part) blocks
 
 -- what is left of a replay after the sheets and the length of its log: 14, then 8
 unfoldable pub replayed_on : Task → List Cut → List ℕ → List ℤ → ReplayOutcome

@@ -3,17 +3,17 @@ use Prim.Native.Nat.{ℕ, zero, suc, ◌+◌, ◌*◌, ◌/◌, ◌≤◌, ◌<�
 use native.Mathlib.Nat.{not-suc-le-zero, le_of_suc-le-suc}
 use native.Mathlib.Decide.{dec_lt}
 use native.Mathlib.Omega.{arith}
-use mathlib.Core.Path.{◌≡◌, refl, sym, ap, ◌∙◌}
+use mathlib.Core.Path.{◌≡◌, refl, ap, ◌∙◌}
 use mathlib.Core.Logic.{⊎_elim}
 use mathlib.Core.Bool.{true, false}
 use mathlib.Core.List.{List, [], ◌∷◌, ◌++◌}
-use lib.ListN.{length, get_or, set, length-append}
-use lib.Seq.{ext_get_or}
+use lib.ListN.{length, get_or, take, length-append}
+use lib.Seq.{ext_get_or, length-take-le}
 use borrow.Author.Tests.{lt-ltb, le-ltb, ltb-true}
 use Rattle.task.specs.Loops.{all, tab, over}
 use Rattle.task.specs.Sizes.{limits}
 use Rattle.task.specs.Task.{step}
-use Rattle.task.proofs.LoopLaws.{true-or-false, all-at, all-intro, tab-length, tab-at, over_none, over-more, over-length}
+use Rattle.task.proofs.LoopLaws.{true-or-false, all-at, all-intro, tab-length, tab-at, over_none}
 use Rattle.run.specs.declared.Row.{Row}
 use Rattle.run.specs.Listing.{listed, row_place}
 use Rattle.refining.proofs.CutListLaws.{listed-three}
@@ -68,17 +68,15 @@ module _ (places : ℕ) (vs : List ℕ) (n : ℕ) where
       by-places (yes h) = none-fit (q ∙ few-places h)
       by-places (no h) = by_values (omega arith) (dec_lt (length vs / 3) n)
 
+-- the places that they take
+pub part-length : (rows : List Row) (vs : List ℕ) (n : ℕ) {m : ℕ} → m ≡ fitting (length rows) vs n → length (take m rows) ≡ m
+part-length rows vs n {m} e = length-take-le m rows (fitting-fits (length rows) vs n e).room
+
 -- ---- rows put one after the other
 
 -- the list with i rows put
 abbrev pub front : List Row → List ℕ → ℕ → List Row
 front rows vs i = over (tab i (row_in vs)) rows
-
-pub front_length : (rows : List Row) (vs : List ℕ) (i : ℕ) → i ≤ length rows → length (front rows vs i) ≡ length rows
-front_length rows vs i = over-length i (row_in vs) rows
-
-pub front-more : (rows : List Row) (vs : List ℕ) (i : ℕ) (r : Row) → r ≡ row_in vs i → i < length rows → set (front rows vs i) i r ≡ front rows vs (i + 1)
-front-more rows vs i r e h = ap (set (front rows vs i) i) e ∙ sym (over-more i (row_in vs) rows h)
 
 pub front-all : (rows : List Row) (vs : List ℕ) (n m : ℕ) → m ≡ fitting (length rows) vs n → PutsRows rows vs n m (front rows vs m)
 unfolding filling

@@ -1,5 +1,5 @@
 -- A run for so many places of rows: the values it lists are put as rows.
-use Prim.Native.Nat.{ℕ, zero, suc, ◌-◌, ◌*◌, ◌≤◌, ◌<◌}
+use Prim.Native.Nat.{ℕ, min, zero, suc, ◌-◌, ◌*◌, ◌≤◌, ◌<◌}
 use native.Mathlib.Nat.{not-suc-le-zero, le_of_suc-le-suc}
 use native.Mathlib.Omega.{arith}
 use mathlib.Core.Path.{◌≡◌, refl, sym, ap, ◌∙◌}
@@ -8,7 +8,6 @@ use mathlib.Core.Bool.{true, ◌&&◌}
 use mathlib.Core.List.{List, [], ◌∷◌, ◌++◌, append_assoc}
 use lib.Dec.{ltb}
 use lib.ListN.{length, get_or, take, drop}
-use lib.Seq.{length-take-le}
 use borrow.Author.Tests.{eq-eqb, ne_eqb, ltb-true}
 use Rattle.task.specs.declared.Step.{Step}
 use Rattle.task.specs.Loops.{over}
@@ -25,14 +24,13 @@ use Rattle.run.proofs.RunLaws.{Right}
 use Rattle.run.proofs.RunRightLaws.{run-right}
 use Rattle.run.specs.Listing.{listed, row_place}
 use Rattle.running.specs.declared.Answer.{Answer}
-use Rattle.running.specs.declared.Answer.TheVariants.{Refused}
+use Rattle.fields.specs.Refusals.{Answered, Done, Refused}
 use Rattle.running.specs.Running as running
 use Rattle.running.specs.Running.{run_checks, returned}
 use Rattle.running.proofs.RowLaws.{row-each}
 use Rattle.running.specs.Counts.{row_count}
-use Rattle.values.specs.Usable.{usable}
 use Rattle.running.proofs.CountLaws as count
-use Rattle.values.proofs.UsableLaws.{usable-is, at-most, missing-same}
+use Rattle.values.proofs.PlacesLaws.{part-long, missing-same}
 use Rattle.rows.specs.Rows.{filling, row_checks, row_run, RowRuns}
 use Rattle.rows.proofs.FillLaws.{listed-long, listed-put, nothing_put}
 
@@ -53,21 +51,21 @@ module _ (t : Task) where
   rows-known room cs no_plan r i k = absurd (not-suc-le-zero k)
   rows-known room cs («open» e) r i k = absurd (not-suc-le-zero k)
 
-  rows-counted : (b : ℕ) (a : run.Answer) → row_count (returned t b a) ≡ length (rows_of t a)
+  rows-counted : (b : ℕ) (a : run.Answer) → row_count (Done (returned t b a)) ≡ length (rows_of t a)
   unfolding returned row_count rows_of
   rows-counted b (plan ss) = sym (row-each t ss)
   rows-counted b no_plan = refl
   rows-counted b («open» e) = refl
 
 -- ---- 8 is judged on the places lent
-module _ (s : List ℕ) (room : ℕ) (cuts : List ℕ) (lent : List Row) (list : List ℕ) (l : length list ≡ usable most_steps (length lent) * 3) where
+module _ (s : List ℕ) (room : ℕ) (cuts : List ℕ) (lent : List Row) (list : List ℕ) (l : length list ≡ min (length lent) most_steps * 3) where
   few-same : room ≤ limits.blocks → ltb (length (listed row_place lent)) ((room - 1) * 3) ≡ ltb (length list) ((room - 1) * 3)
-  few-same h = missing-same most_steps (length lent) (room - 1) (length (listed row_place lent)) (length list) (omega arith) (omega (arith, listed-long lent)) l
+  few-same h = missing-same (length lent) most_steps (room - 1) (length (listed row_place lent)) (length list) (omega arith) (omega (arith, listed-long lent)) l
 
   pub checks-same : refusal (row_checks s room cuts lent) ≡ refusal (run_checks s room cuts list)
   checks-same = count.lists-same s room cuts (listed row_place lent) cuts list (λ h. (refl, few-same h))
 
-  module _ {a : Answer} {c v : List ℕ} (e : running.Runs s room cuts list a c v) (vs : List ℕ) where
+  module _ {a : Answered Answer} {c v : List ℕ} (e : running.Runs s room cuts list a c v) (vs : List ℕ) where
     abbrev t : Task
     t = task_on s
 
@@ -93,7 +91,7 @@ module _ (s : List ℕ) (room : ℕ) (cuts : List ℕ) (lent : List Row) (list :
         let right = (run-right t ok room (count.fits s room cuts list e w).some).right in
         ap (λ (x : List ℕ). (filling lent x (row_count a)).rows) z
         ∙ ap (λ (n : ℕ). (filling lent (xs ++ ys) n).rows) k
-        ∙ listed-put lent planned ys nobody (omega (arith, listed-long planned, (usable-is most_steps (length lent)).there))
+        ∙ listed-put lent planned ys nobody (omega (arith, listed-long planned))
         (λ i h. omega (arith, rows-known t room o.made o.answer right i h, ok.steps))
 
     pub row_told : Told
@@ -106,13 +104,13 @@ module _ (s : List ℕ) (room : ℕ) (cuts : List ℕ) (lent : List Row) (list :
         not-ran : count.NotRan s room cuts list a c v → Told
         not-ran b =
             let z : a ≡ Refused (refusal (row_checks s room cuts lent)) = b.answer ∙ ap Refused (sym checks-same) in
-            let y : (filling lent (v ++ vs) (row_count a)).rows ≡ lent = ap (λ (x : Answer). (filling lent (v ++ vs) (row_count x)).rows) z ∙ nothing_put lent (v ++ vs) in
+            let y : (filling lent (v ++ vs) (row_count a)).rows ≡ lent = ap (λ (x : Answered Answer). (filling lent (v ++ vs) (row_count x)).rows) z ∙ nothing_put lent (v ++ vs) in
             simp (ne_eqb (refusal (row_checks s room cuts lent)) 0 (λ q. b.bad (sym checks-same ∙ q))) (rw (y, b.same-cuts, z) refl)
 
 -- ---- the same with the first values of a list to work in
-pub told-in : (s : List ℕ) (room places : ℕ) (cuts values : List ℕ) → length values ≡ most_values → {m : ℕ} → m ≡ usable most_steps places → {a : Answer} {c v : List ℕ}
+pub told-in : (s : List ℕ) (room places : ℕ) (cuts values : List ℕ) → length values ≡ most_values → {m : ℕ} → m ≡ min places most_steps → {a : Answered Answer} {c v : List ℕ}
     → running.Runs s room cuts (take (m * 3) values) a c v → (lent : List Row) → length lent ≡ places
     → RowRuns s room cuts lent a c (filling lent (v ++ drop (m * 3) values) (row_count a)).rows
 told-in s room places cuts values h {m} p e lent q =
-    let long = length-take-le (m * 3) values (omega (arith, at-most most_steps places p)) ∙ ap (λ (x : ℕ). x * 3) (p ∙ ap (usable most_steps) (sym q)) in
+    let long = part-long (length lent) most_steps values h (p ∙ ap (λ (x : ℕ). min x most_steps) (sym q)) in
     row_told s room cuts lent (take (m * 3) values) long e (drop (m * 3) values)

@@ -4,6 +4,7 @@ use Rattle.task.specs.Loops.{all, tab, over}
 use Rattle.task.specs.Sizes.{limits}
 use Rattle.task.specs.Task.{step}
 use Rattle.fields.specs.Judging.{Check, refusal, unless_refused}
+use Rattle.fields.specs.Refusals.{Answered, Done, Refused}
 use Rattle.sheets.specs.Holding.{task_on}
 use Rattle.run.specs.declared.Row.{Row}
 use Rattle.run.specs.Run as run
@@ -11,7 +12,6 @@ use Rattle.run.specs.Run.{block_count, rows_of}
 use Rattle.blocks.specs.Flat.{cut_place}
 use Rattle.run.specs.Listing.{listed, row_place}
 use Rattle.running.specs.declared.Answer.{Answer}
-use Rattle.running.specs.declared.Answer.TheVariants.{Refused}
 use Rattle.running.specs.Running.{run_checks, returned}
 
 -- ---- rows put from a list of values, three for each: step, tenths, tenths left
@@ -49,11 +49,11 @@ abbrev pub row_checks : List ℕ → ℕ → List ℕ → List Row → List Chec
 row_checks s room cuts rows = run_checks s room cuts (listed row_place rows)
 
 pub record RowRunOutcome : Type 0 where
-  pub answer : Answer
+  pub answer : Answered Answer
   pub cuts : List ℕ
   pub rows : List Row
 
-abbrev pub row_run_outcome : Answer → List ℕ → List Row → RowRunOutcome
+abbrev pub row_run_outcome : Answered Answer → List ℕ → List Row → RowRunOutcome
 row_run_outcome a cuts rows = record { answer = a; cuts = cuts; rows = rows }
 
 -- the answer, the cuts over the front of one list and a plan's rows over that of the other; a refusal changes nothing lent
@@ -62,9 +62,9 @@ row_run s room cuts rows =
     let t = task_on s in
     let o = run.run t room in
     unless_refused (refusal (row_checks s room cuts rows))
-    (row_run_outcome (returned t (block_count o) o.answer) (over (listed cut_place o.made) cuts) (over (rows_of t o.answer) rows))
+    (row_run_outcome (Done (returned t (block_count o) o.answer)) (over (listed cut_place o.made) cuts) (over (rows_of t o.answer) rows))
     (λ n. row_run_outcome (Refused n) cuts rows)
 
 -- what `run` promises, whatever is passed: the answer and the two lists at exit
-abbrev pub RowRuns : (s : List ℕ) (room : ℕ) (cuts : List ℕ) (rows : List Row) → Answer → (cuts' : List ℕ) (rows' : List Row) → Type 0
+abbrev pub RowRuns : (s : List ℕ) (room : ℕ) (cuts : List ℕ) (rows : List Row) → Answered Answer → (cuts' : List ℕ) (rows' : List Row) → Type 0
 RowRuns s room cuts rows r cuts' rows' = row_run_outcome r cuts' rows' ≡ row_run s room cuts rows

@@ -31,8 +31,9 @@ use Rattle.run.proofs.RunLaws.{Cheapest, NoPlan as NonePlans, Right}
 use Rattle.run.proofs.RunRightLaws.{run-right}
 use Rattle.blocks.specs.Flat.{cut_place}
 use Rattle.run.specs.Listing.{listed, row_place}
+use Rattle.fields.specs.Refusals.{Answered, Done, Refused}
 use Rattle.running.specs.declared.Answer.{Answer}
-use Rattle.running.specs.declared.Answer.TheVariants.{Plan, NoPlan, Open, Refused}
+use Rattle.running.specs.declared.Answer.TheVariants.{Plan, NoPlan, Open}
 use Rattle.running.specs.Running.{room_checks, run_checks, returned, number, RunOutcome, run_outcome, made, running, Runs}
 use Rattle.running.proofs.RunningLaws.{room_fits}
 use Rattle.run_laws.proofs.Refusals.{runner}
@@ -49,13 +50,13 @@ pub record Planned (t : Task) (cost count : ℕ) (list₀ list : List ℕ) : Typ
 
 module _ (t : Task) (room : ℕ) (cs : List Cut) (list₀ list : List ℕ) where
   -- what an answer says, with the cuts that were made and the rows at entry and at exit
-  abbrev pub Says : Answer → Type 0
-  Says (Plan c n b) = (b ≡ length cs + 1) × Planned t c n list₀ list
-  Says (NoPlan b) = (b ≡ length cs + 1) × (list ≡ list₀) × NonePlans t
-  Says (Open e b) = (b ≡ length cs + 1) × (list ≡ list₀) × (b ≡ room) × (room < state_count t) × (estimate t cs (start t) ≡ some e)
+  abbrev pub Says : Answered Answer → Type 0
+  Says (Done (Plan c n b)) = (b ≡ length cs + 1) × Planned t c n list₀ list
+  Says (Done (NoPlan b)) = (b ≡ length cs + 1) × (list ≡ list₀) × NonePlans t
+  Says (Done (Open e b)) = (b ≡ length cs + 1) × (list ≡ list₀) × (b ≡ room) × (room < state_count t) × (estimate t cs (start t) ≡ some e)
   Says (Refused n) = ⊥
 
-  said : (r : run.Answer) → Right t room cs r → list ≡ over (listed row_place (rows_of t r)) list₀ → Says (returned t (length cs + 1) r)
+  said : (r : run.Answer) → Right t room cs r → list ≡ over (listed row_place (rows_of t r)) list₀ → Says (Done (returned t (length cs + 1) r))
   unfolding returned rows_of
   said (plan ss) h e = (refl, record { steps = ss; count-is = refl; cost-is = refl; listed-rows = e; cheapest = h })
   said no_plan h e = (refl, (unfold over listed in e), h)
@@ -94,7 +95,7 @@ module _ (s : List ℕ) (room : ℕ) (cuts rows₀ : List ℕ) where
   t = task_on s
 
   -- a run that is not refused
-  pub record Ran (a : Answer) (cuts' rows' : List ℕ) : Type 0 where
+  pub record Ran (a : Answered Answer) (cuts' rows' : List ℕ) : Type 0 where
     pub model : Accepted t
     pub some : 1 ≤ room
     pub few : room ≤ limits.blocks
@@ -105,7 +106,7 @@ module _ (s : List ℕ) (room : ℕ) (cuts rows₀ : List ℕ) where
     pub within : length made + 1 ≤ room
     pub says : Says t room made rows₀ rows' a
 
-  module _ {a : Answer} {cuts' rows' : List ℕ} (done : Runs s room cuts rows₀ a cuts' rows') (kind : number a ≡ 0) where
+  module _ {a : Answered Answer} {cuts' rows' : List ℕ} (done : Runs s room cuts rows₀ a cuts' rows') (kind : number a ≡ 0) where
     quiet : refusal (run_checks s room cuts rows₀) ≡ 0
     quiet = sym (runner s room cuts rows₀).told ∙ ap (λ (o : RunOutcome). number o.answer) (sym done) ∙ kind
 
@@ -127,7 +128,7 @@ module _ (s : List ℕ) (room : ℕ) (cuts rows₀ : List ℕ) where
         let f = room_fits room cuts rows₀ parts.1 in
         let r = run-right t v room f.some in
         let o = run.run t room in
-        let e : a ≡ returned t (length o.made + 1) o.answer = ap (λ (x : RunOutcome). x.answer) whole_run ∙ (unfold made run.block_count in refl) in
+        let e : a ≡ Done (returned t (length o.made + 1) o.answer) = ap (λ (x : RunOutcome). x.answer) whole_run ∙ (unfold made run.block_count in refl) in
         let l : rows' ≡ over (listed row_place (rows_of t o.answer)) rows₀ = ap (λ (x : RunOutcome). x.rows) whole_run ∙ (unfold made in refl) in
         record {
           model = v;
@@ -141,20 +142,20 @@ module _ (s : List ℕ) (room : ℕ) (cuts rows₀ : List ℕ) where
           says = rw e (said t room o.made rows₀ rows' o.answer r.right l);
         }
 
-  module _ {a : Answer} {cuts' rows' : List ℕ} (r : Ran a cuts' rows') where
+  module _ {a : Answered Answer} {cuts' rows' : List ℕ} (r : Ran a cuts' rows') where
     -- with room for every state a run never ends open
-    pub never-open : state_count t ≤ room → (e b : ℕ) → a ≡ Open e b → ⊥
+    pub never-open : state_count t ≤ room → (e b : ℕ) → a ≡ Done (Open e b) → ⊥
     never-open h e b q = let z = subst (Says t room r.made rows₀ rows') q r.says in omega (arith, z.3)
 
     -- an open run has filled its room
-    pub open-is-full : (e b : ℕ) → a ≡ Open e b → length r.made + 1 ≡ room
+    pub open-is-full : (e b : ℕ) → a ≡ Done (Open e b) → length r.made + 1 ≡ room
     open-is-full e b q = let z = subst (Says t room r.made rows₀ rows') q r.says in sym z.0 ∙ z.2
 
     -- its figure is the start's estimate after the cuts made, and no plan costs less
-    pub open-estimate : (e b : ℕ) → a ≡ Open e b → estimate t r.made (start t) ≡ some e
+    pub open-estimate : (e b : ℕ) → a ≡ Done (Open e b) → estimate t r.made (start t) ≡ some e
     open-estimate e b q = let z = subst (Says t room r.made rows₀ rows') q r.says in z.4
 
-    pub open-below : (e b : ℕ) → a ≡ Open e b → (ss : List Step) → IsPlan t ss → e ≤ costs t ss
+    pub open-below : (e b : ℕ) → a ≡ Done (Open e b) → (ss : List Step) → IsPlan t ss → e ≤ costs t ss
     open-below e b q = none_below t r.model r.made r.ok e (open-estimate e b q)
 
     pub never-falls : (before after : List Cut) (c : Cut) → r.made ≡ before ++ (c ∷ after) → (x : State) → is_state t x ≡ true → NoMore (estimate t before x) (estimate t (before ++ (c ∷ [])) x)

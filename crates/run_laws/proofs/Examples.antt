@@ -16,7 +16,8 @@ use Rattle.run.specs.Run as run
 use Rattle.blocks.specs.Flat as flat
 use Rattle.run.specs.Listing as listing
 use Rattle.sheet_laws.proofs.Examples.{rethread, plain, goal0}
-use Rattle.running.specs.declared.Answer.TheVariants.{Plan, NoPlan, Open, Refused}
+use Rattle.fields.specs.Refusals.{Done, Refused}
+use Rattle.running.specs.declared.Answer.TheVariants.{Plan, NoPlan, Open}
 use Rattle.running.specs.Running as running
 use Rattle.running.specs.Running.{RunOutcome, run_outcome}
 
@@ -65,13 +66,13 @@ abbrev four_cuts : List ℕ
 four_cuts = 0 ∷ 1 ∷ 4 ∷ 0 ∷ 0 ∷ 2 ∷ 2 ∷ 1 ∷ 2 ∷ 0 ∷ 1 ∷ 2 ∷ []
 
 pub answered-examples : map answer asked
-    ≡ run_outcome (Open 0 1) (sevens 1) (sevens 1)
-    ∷ run_outcome (Open 50 2) (0 ∷ 1 ∷ 4 ∷ 7 ∷ []) (sevens 3)
-    ∷ run_outcome (Open 70 4) (0 ∷ 1 ∷ 4 ∷ 0 ∷ 0 ∷ 2 ∷ 2 ∷ 1 ∷ 2 ∷ []) (sevens 9)
-    ∷ run_outcome (Plan 100 3 5) (four_cuts ++ (7 ∷ [])) (2 ∷ 30 ∷ 70 ∷ 0 ∷ 20 ∷ 50 ∷ 3 ∷ 50 ∷ 0 ∷ 7 ∷ 7 ∷ 7 ∷ 7 ∷ 7 ∷ [])
-    ∷ run_outcome (NoPlan 5) four_cuts (sevens 12)
-    ∷ run_outcome (Plan 0 0 1) [] []
-    ∷ run_outcome (Plan 0 0 1) [] []
+    ≡ run_outcome (Done (Open 0 1)) (sevens 1) (sevens 1)
+    ∷ run_outcome (Done (Open 50 2)) (0 ∷ 1 ∷ 4 ∷ 7 ∷ []) (sevens 3)
+    ∷ run_outcome (Done (Open 70 4)) (0 ∷ 1 ∷ 4 ∷ 0 ∷ 0 ∷ 2 ∷ 2 ∷ 1 ∷ 2 ∷ []) (sevens 9)
+    ∷ run_outcome (Done (Plan 100 3 5)) (four_cuts ++ (7 ∷ [])) (2 ∷ 30 ∷ 70 ∷ 0 ∷ 20 ∷ 50 ∷ 3 ∷ 50 ∷ 0 ∷ 7 ∷ 7 ∷ 7 ∷ 7 ∷ 7 ∷ [])
+    ∷ run_outcome (Done (NoPlan 5)) four_cuts (sevens 12)
+    ∷ run_outcome (Done (Plan 0 0 1)) [] []
+    ∷ run_outcome (Done (Plan 0 0 1)) [] []
     ∷ run_outcome (Refused 6) [] []
     ∷ run_outcome (Refused 7) [] []
     ∷ run_outcome (Refused 7) [] []

@@ -4,17 +4,17 @@ use Prim.Native.Nat.{ℕ}
 use mathlib.Core.Path.{◌≡◌, refl}
 use mathlib.Core.List.{List, [], ◌∷◌, ◌++◌}
 use Rattle.task.specs.Task.{Task}
+use Rattle.fields.specs.Refusals.{Done, Refused}
 use Rattle.fields.proofs.ExactLaws.{has, Numbers, numbers-append, Judged, judges}
 use Rattle.sheets.specs.ModelSheet.{sheet_checks}
 use Rattle.sheets.specs.Holding.{task_on}
 use Rattle.sheet_laws.proofs.Refusals as sheet
 use Rattle.run.specs.Run as run
 use Rattle.run.specs.Run.{plan, no_plan, «open»}
-use Rattle.running.specs.declared.Answer.TheVariants.{Refused}
 use Rattle.running.specs.Running.{room_checks, run_checks, returned, number, RunOutcome, run_outcome, made, running}
 
 -- a run that is made refuses nothing
-pub told-number : (t : Task) (b : ℕ) (a : run.Answer) → number (returned t b a) ≡ 0
+pub told-number : (t : Task) (b : ℕ) (a : run.Answer) → number (Done (returned t b a)) ≡ 0
 unfolding number returned
 told-number t b (plan ss) = refl
 told-number t b no_plan = refl

@@ -15,6 +15,7 @@ use Rattle.task.specs.Sizes.{limits}
 use Rattle.task.specs.Task.{Task, Accepted}
 use Rattle.task.proofs.LoopLaws.{true-or-false}
 use Rattle.fields.specs.Judging.{check, outside, refusal, ◌then◌}
+use Rattle.fields.specs.Refusals.{Answered, Done, Refused}
 use Rattle.fields.proofs.JudgingLaws.{applies, neither, refusal-append, inside-means}
 use Rattle.sheets.specs.ModelSheet.{sheet_checks, judge_sheet}
 use Rattle.sheets.specs.Holding.{task_on}
@@ -27,7 +28,7 @@ use Rattle.blocks.specs.Flat.{cut_place}
 use Rattle.run.specs.Listing.{listed, row_place}
 use Rattle.refining.proofs.CutListLaws.{listed-length}
 use Rattle.running.specs.declared.Answer.{Answer}
-use Rattle.running.specs.declared.Answer.TheVariants.{Plan, NoPlan, Open, Refused}
+use Rattle.running.specs.declared.Answer.TheVariants.{Plan, NoPlan, Open}
 use Rattle.running.specs.Running as running
 use Rattle.running.specs.Running.{room_checks, run_checks, returned, run_outcome, made}
 use Rattle.running.proofs.RowLaws.{three}
@@ -36,36 +37,36 @@ use Rattle.running.specs.Counts.{cut_value_count, row_count, row_value_count, Co
 
 -- ---- the numbers of an answer
 module _ (t : Task) (blocks : ℕ) where
-  cuts-told : (a : run.Answer) → cut_value_count (returned t blocks a) ≡ (blocks - 1) * 3
+  cuts-told : (a : run.Answer) → cut_value_count (Done (returned t blocks a)) ≡ (blocks - 1) * 3
   unfolding returned cut_value_count
   cuts-told (plan ss) = refl
   cuts-told no_plan = refl
   cuts-told («open» e) = refl
 
-  rows_told : (a : run.Answer) → row_value_count (returned t blocks a) ≡ length (listed row_place (rows_of t a))
+  rows_told : (a : run.Answer) → row_value_count (Done (returned t blocks a)) ≡ length (listed row_place (rows_of t a))
   unfolding returned row_count row_value_count rows_of listed
   rows_told (plan ss) = sym (three t ss)
   rows_told no_plan = refl
   rows_told («open» e) = refl
 
-  counted-told : (a : run.Answer) → 1 ≤ blocks → blocks ≤ limits.blocks → ((ss : List Step) → a ≡ plan ss → length ss < limits.blocks) → Counted (returned t blocks a)
+  counted-told : (a : run.Answer) → 1 ≤ blocks → blocks ≤ limits.blocks → ((ss : List Step) → a ≡ plan ss → length ss < limits.blocks) → Counted (Done (returned t blocks a))
   unfolding returned Counted
   counted-told (plan ss) h g short = (h, g, let q = short ss refl in omega arith)
   counted-told no_plan h g short = (h, g)
   counted-told («open» e) h g short = (h, g)
 
-  rows_few : (room : ℕ) (a : run.Answer) → 1 ≤ room → ((ss : List Step) → a ≡ plan ss → length ss < room) → row_value_count (returned t blocks a) ≤ (room - 1) * 3
+  rows_few : (room : ℕ) (a : run.Answer) → 1 ≤ room → ((ss : List Step) → a ≡ plan ss → length ss < room) → row_value_count (Done (returned t blocks a)) ≤ (room - 1) * 3
   unfolding returned row_count row_value_count
   rows_few room (plan ss) h short = let q = short ss refl in omega arith
   rows_few room no_plan h short = omega arith
   rows_few room («open» e) h short = omega arith
 
 -- an answer has no more rows than there can be blocks
-pub few-rows : (a : Answer) → Counted a → row_count a ≤ limits.blocks
+pub few-rows : (a : Answered Answer) → Counted a → row_count a ≤ limits.blocks
 unfolding Counted row_count
-few-rows (Plan cost steps blocks) h = h.2
-few-rows (NoPlan blocks) h = omega arith
-few-rows (Open estimate blocks) h = omega arith
+few-rows (Done (Plan cost steps blocks)) h = h.2
+few-rows (Done (NoPlan blocks)) h = omega arith
+few-rows (Done (Open estimate blocks)) h = omega arith
 few-rows (Refused n) h = omega arith
 
 -- ---- lists of other lengths are judged alike where for every room that there is they have the places
@@ -113,11 +114,11 @@ module _ (s : List ℕ) (room : ℕ) (c r : List ℕ) where
   abbrev pub row_list : List ℕ
   row_list = listed row_place (rows_of t o.answer)
 
-  module _ (a : Answer) (c' r' : List ℕ) where
+  module _ (a : Answered Answer) (c' r' : List ℕ) where
     -- a run that was made
     pub record Ran : Type 0 where
       pub ok : refusal (run_checks s room c r) ≡ 0
-      pub answer : a ≡ returned t (block_count o) o.answer
+      pub answer : a ≡ Done (returned t (block_count o) o.answer)
       pub cut-list : c' ≡ over cut_list c
       pub row-list : r' ≡ over row_list r
 
@@ -127,14 +128,14 @@ module _ (s : List ℕ) (room : ℕ) (c r : List ℕ) where
       pub same-cuts : c' ≡ c
 
   -- what the code that goes on has to know
-  pub record Known (a : Answer) (c' r' : List ℕ) : Type 0 where
+  pub record Known (a : Answered Answer) (c' r' : List ℕ) : Type 0 where
     pub counted : Counted a
     pub cuts_fit : cut_value_count a ≤ length c
     pub rows_fit : row_value_count a ≤ length r
     pub cuts-in : cut_value_count a ≤ length c'
     pub rows_in : row_value_count a ≤ length r'
 
-  module _ {a : Answer} {c' r' : List ℕ} (e : running.Runs s room c r a c' r') where
+  module _ {a : Answered Answer} {c' r' : List ℕ} (e : running.Runs s room c r a c' r') where
     pub ran-or-not : Ran a c' r' ⊎ NotRan a c' r'
     unfolding running.running made
     ran-or-not = split (ℕ_discrete (refusal (run_checks s room c r)) 0)
@@ -189,4 +190,4 @@ module _ (s : List ℕ) (room : ℕ) (c r : List ℕ) where
             }
 
         not-ran : NotRan a c' r' → Known a c' r'
-        not-ran n = subst (λ (x : Answer). Known x c' r' → Known a c' r') n.answer (λ x. x) (record { counted = tt; cuts_fit = omega arith; rows_fit = omega arith; cuts-in = omega arith; rows_in = omega arith })
+        not-ran n = subst (λ (x : Answered Answer). Known x c' r' → Known a c' r') n.answer (λ x. x) (record { counted = tt; cuts_fit = omega arith; rows_fit = omega arith; cuts-in = omega arith; rows_in = omega arith })

@@ -2,15 +2,15 @@
 use Prim.Native.Nat.{ℕ, zero, suc, ◌+◌, ◌*◌, ◌≤◌, ◌<◌}
 use native.Mathlib.Nat.{le_of_suc-le-suc, not-suc-le-zero}
 use native.Mathlib.Omega.{arith}
-use mathlib.Core.Path.{◌≡◌, refl, sym, ap, ap₂, ◌∙◌}
-use mathlib.Core.List.{List, [], ◌∷◌}
-use lib.ListN.{length, get_or, set, drop, length-set, drop_of_length-le}
-use lib.Seq.{drop-cons}
-use Rattle.task.specs.Sizes.{most_cost}
+use mathlib.Core.Path.{◌≡◌, refl, sym, ap, ◌∙◌}
+use mathlib.Core.List.{List, [], ◌∷◌, ◌++◌}
+use lib.ListN.{length, get_or, set, take, drop, drop_of_length-le}
+use lib.Seq.{drop-cons, take-suc}
+use Rattle.std.proofs.lemmas.List.{get_or-take, length-take-le}
+use Rattle.task.specs.Sizes.{limits, most_cost}
 use Rattle.task.specs.declared.Step.{Step}
-use Rattle.task.specs.Loops.{over}
+use Rattle.task.specs.Loops.{tab, over}
 use Rattle.task.specs.Task.{Task, step, cost_of, costs}
-use Rattle.task.proofs.LoopLaws.{tab-length, tab-at}
 use Rattle.fields.specs.Places.{puts}
 use Rattle.fields.proofs.PlaceLaws.{puts-over}
 use Rattle.run.specs.Run.{rows}
@@ -41,66 +41,65 @@ unfolding row_place
 three t ss = listed-three row_place (λ r. refl) (rows t ss) ∙ ap (λ (n : ℕ). n * 3) (row-each t ss)
 
 -- ---- the loop
-module _ (count : ℕ) (path cost list₀ : List ℕ) where
-  abbrev steps : List Step
-  steps = path_steps count path
-
-  long : length steps ≡ count
-  unfolding path_steps
-  long = tab-length count (step_in path)
-
-  rest : (i : ℕ) → i < count → drop i steps ≡ step_in path i ∷ drop (i + 1) steps
-  unfolding path_steps
+module _ (path : List Step) (cost list₀ : List ℕ) where
+  rest : (i : ℕ) → i < length path → drop i path ≡ get_or path i (step 0) ∷ drop (i + 1) path
   rest i h =
       let n : suc i ≡ i + 1 = omega arith in
-      drop-cons steps i (step 0) (omega (arith, long)) ∙ ap₂ (λ (s : Step) (k : ℕ). s ∷ drop k steps) (tab-at count (step_in path) (step 0) i h) n
+      drop-cons path i (step 0) h ∙ ap (λ (k : ℕ). get_or path i (step 0) ∷ drop k path) n
 
   -- the rows from row i on stand in the list
   pub record RowsFrom (list : List ℕ) (left i : ℕ) : Type 0 where
-    pub within : i ≤ count
-    pub small : left + i * most_cost ≤ count * most_cost
-    pub same : length list ≡ length list₀
-    pub told : (t : Task) → Costed t count path cost → (left ≡ costs t (drop i steps)) × (list ≡ puts (i * 3) (listed row_place (rows t (drop i steps))) list₀)
+    pub small : left + i * most_cost ≤ length path * most_cost
+    pub told : (t : Task) → Costed t (length path) path cost → (left ≡ costs t (drop i path)) × (list ≡ puts (i * 3) (listed row_place (rows t (drop i path))) list₀)
 
-  pub rows_none : RowsFrom list₀ 0 count
+  pub rows_none : RowsFrom list₀ 0 (length path)
   unfolding costs rows listed puts
   rows_none =
       record {
-        within = omega arith;
         small = omega arith;
-        same = refl;
-        told = λ t a. let e : drop count steps ≡ [] = drop_of_length-le steps {i = count} (omega (arith, long)) in (rw e, rw e);
+        told = λ t a. let e : drop (length path) path ≡ [] = drop_of_length-le path {i = length path} (omega arith) in (rw e, rw e);
       }
 
-  pub rows_more : {list : List ℕ} {left : ℕ} (i : ℕ) {k : ℕ} → RowsFrom list left k → k ≡ i + 1 → (paid : ℕ) → (paid ≡ get_or cost (get_or path i 0) 0) × (paid ≤ most_cost)
-      → RowsFrom (set (set (set list (i * 3) (get_or path i 0)) (i * 3 + 1) paid) (i * 3 + 2) left) (left + paid) i
-  unfolding costs rows listed row_place puts step_in
-  rows_more {list} {left} i {k} r e paid p =
+  pub rows_more : {list : List ℕ} {left : ℕ} (i : ℕ) {k : ℕ} → RowsFrom list left k → k ≡ i + 1 → i < length path → (paid : ℕ) → paid ≡ get_or cost (get_or path i (step 0)).0 0 → paid ≤ most_cost
+      → RowsFrom (set (set (set list (i * 3) (get_or path i (step 0)).0) (i * 3 + 1) paid) (i * 3 + 2) left) (left + paid) i
+  unfolding costs rows listed row_place puts
+  rows_more {list} {left} i {k} r e h paid p m =
       record {
-        within = omega (arith, r.within);
-        small = omega (arith, r.small, p.1);
-        same =
-            length-set (set (set list (i * 3) (get_or path i 0)) (i * 3 + 1) paid) (i * 3 + 2) left ∙ length-set (set list (i * 3) (get_or path i 0)) (i * 3 + 1) paid
-            ∙ length-set list (i * 3) (get_or path i 0) ∙ r.same;
+        small = omega (arith, r.small, m);
         told = λ t a.
-            let h : i < count = omega (arith, r.within) in
             let d = rest i h in
-            let q : paid ≡ cost_of t (step_in path i) = p.0 ∙ sym (a i h) in
+            let q : paid ≡ cost_of t (get_or path i (step 0)) = p ∙ sym (a i h) in
             let b = rw e at (r.told t a) in
-            let xs = listed row_place (rows t (drop (i + 1) steps)) in
-            let m : (i + 1) * 3 ≡ i * 3 + 1 + 1 + 1 = omega arith in
-            let put : list ≡ puts (i * 3 + 1 + 1 + 1) xs list₀ = b.1 ∙ ap (λ (z : ℕ). puts z xs list₀) m in
-            let l1 = ap (λ (z : List ℕ). set z (i * 3) (get_or path i 0)) put ∙ puts-before xs (i * 3 + 1 + 1 + 1) list₀ (i * 3) (get_or path i 0) (omega arith) in
+            let xs = listed row_place (rows t (drop (i + 1) path)) in
+            let x : (i + 1) * 3 ≡ i * 3 + 1 + 1 + 1 = omega arith in
+            let put : list ≡ puts (i * 3 + 1 + 1 + 1) xs list₀ = b.1 ∙ ap (λ (z : ℕ). puts z xs list₀) x in
+            let l1 = ap (λ (z : List ℕ). set z (i * 3) (get_or path i (step 0)).0) put ∙ puts-before xs (i * 3 + 1 + 1 + 1) list₀ (i * 3) (get_or path i (step 0)).0 (omega arith) in
             let l2 = ap (λ (z : List ℕ). set z (i * 3 + 1) paid) l1 ∙ puts-before xs (i * 3 + 1 + 1 + 1) _ (i * 3 + 1) paid (omega arith) in
             let n : i * 3 + 2 ≡ i * 3 + 1 + 1 = omega arith in
             let l3 = ap (λ (z : List ℕ). set z (i * 3 + 2) left) l2 ∙ puts-before xs (i * 3 + 1 + 1 + 1) _ (i * 3 + 2) left (omega arith) in
-            (rw d (omega (arith, b.0, q)), l3 ∙ ap (λ (z : ℕ). puts (i * 3 + 1 + 1 + 1) xs (set (set (set list₀ (i * 3) (get_or path i 0)) (i * 3 + 1) paid) z left)) n ∙ rw (d, sym q, sym b.0) refl);
+            (rw d (omega (arith, b.0, q)), l3 ∙ ap (λ (z : ℕ). puts (i * 3 + 1 + 1 + 1) xs (set (set (set list₀ (i * 3) (get_or path i (step 0)).0) (i * 3 + 1) paid) z left)) n ∙ rw (d, sym q, sym b.0) refl);
       }
 
-  pub rows_end : {list : List ℕ} {left : ℕ} (i : ℕ) → RowsFrom list left i → i ≤ 0 → count * 3 ≤ length list₀ → (t : Task) → Costed t count path cost
-      → (left ≡ costs t steps) × (list ≡ over (listed row_place (rows t steps)) list₀)
+  pub rows_end : {list : List ℕ} {left : ℕ} (i : ℕ) → RowsFrom list left i → i ≤ 0 → length path * 3 ≤ length list₀ → (t : Task) → Costed t (length path) path cost
+      → (left ≡ costs t path) × (list ≡ over (listed row_place (rows t path)) list₀)
   unfolding over
   rows_end {list} {left} i r h room t a =
       let e : i ≡ 0 = omega arith in
       let b = rw e at (r.told t a) in
-      (b.0, b.1 ∙ puts-over (listed row_place (rows t steps)) list₀ (omega (arith, room, three t steps, long)))
+      (b.0, b.1 ∙ puts-over (listed row_place (rows t path)) list₀ (omega (arith, room, three t path)))
+
+-- ---- a plan's steps stand at the front of the path
+pub taken : (n : ℕ) (path : List Step) → n ≤ length path → take n path ≡ path_steps n path
+unfolding path_steps step_in tab
+taken zero path h = refl
+taken (suc n) path h = take-suc path n (step 0) (omega (arith, h)) ∙ ap (λ (l : List Step). l ++ (get_or path n (step 0) ∷ [])) (taken n path (omega (arith, h)))
+
+module _ (n : ℕ) (path : List Step) (h : n ≤ length path) where
+  abbrev in-front : {i : ℕ} → i < length (take n path) → i < n
+  in-front l = let w = length-take-le n path h in omega (arith, l, w)
+
+  pub taken-known : ((i : ℕ) → i < n → (get_or path i (step 0)).0 < limits.steps) → (i : ℕ) → i < length (take n path) → (get_or (take n path) i (step 0)).0 < limits.steps
+  taken-known k i l = rw (get_or-take n path i (step 0) (in-front l)) (k i (in-front l))
+
+  pub taken-costed : (t : Task) (cost : List ℕ) → Costed t n path cost → Costed t (length (take n path)) (take n path) cost
+  taken-costed t cost a = λ i l. rw (get_or-take n path i (step 0) (in-front l)) (a i (in-front l))

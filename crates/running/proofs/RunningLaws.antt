@@ -5,20 +5,23 @@ use mathlib.Core.Path.{◌≡◌, refl, sym, ap, ap₂, ◌∙◌}
 use mathlib.Core.List.{List, []}
 use lib.Dec.{ltb}
 use lib.ListN.{length, get_or}
-use borrow.Author.Tests.{lt-ltb, le-ltb, ltb-false, eq-eqb}
+use borrow.Author.Tests.{ltb-false, eq-eqb}
 use Rattle.task.specs.declared.Step.{Step}
 use Rattle.task.specs.Loops.{over}
-use Rattle.task.specs.Sizes.{limits, block_places}
-use Rattle.task.specs.Task.{Task, step, block, cost_of, costs}
+use Rattle.task.specs.Sizes.{limits}
+use Rattle.task.specs.Task.{Task, step, cost_of, costs}
 use Rattle.task.proofs.LoopLaws.{tab-length}
 use Rattle.fields.specs.Judging.{outside, refusal}
-use Rattle.fields.proofs.JudgingLaws.{stop, go, applies, passes, passed, no-checks, refusal-append, below-low, above-high, inside, inside-means, refused-is}
+use Rattle.fields.specs.Refusals.{Done, Refused}
+use Rattle.fields.proofs.JudgingLaws.{stop, go, passed, refusal-append, inside-means, refused-is}
 use Rattle.sheets.specs.ModelSheet.{columns_of, sheet_checks, judge_sheet}
 use Rattle.sheets.specs.Holding.{task_on}
 use Rattle.blocks.specs.Blocks.{whole}
-use Rattle.preparing.specs.declared.Frame.{Frame}
+use Rattle.masks.specs.declared.Tables.{Tables}
+use Rattle.cutting.specs.declared.Blocks.{Blocks}
+use Rattle.blocks.specs.Flat.{blocks_in}
 use Rattle.preparing.specs.Preparing.{Prepared}
-use Rattle.preparing.proofs.WholeLaws.{columns-on, whole-made, whole_long}
+use Rattle.preparing.proofs.WholeLaws.{columns-on, whole-made}
 use Rattle.run.specs.Run as run
 use Rattle.run.specs.Run.{plan, refine, rows, rows_of}
 use Rattle.run.proofs.LengthLaws.{plan-short}
@@ -26,44 +29,15 @@ use Rattle.walk.specs.Walking.{step_in, path_steps}
 use Rattle.refining.specs.declared.Ended.{Ended}
 use Rattle.refining.specs.declared.Ended.TheVariants as ended
 use Rattle.run.specs.Listing.{listed, row_place}
-use Rattle.refining.specs.Refining.{Parted, First, answer_of, blocks_told, KnownEnd, StepsFit, RunEnds}
+use Rattle.refining.specs.Refining.{Uncut, First, answer_of, blocks_told, KnownEnd, StepsFit, RunEnds}
 use Rattle.refining.proofs.ModelLaws.{first-parted}
 use Rattle.running.specs.declared.Answer.{Answer}
-use Rattle.running.specs.declared.Answer.TheVariants.{Plan, Refused}
+use Rattle.running.specs.declared.Answer.TheVariants.{Plan}
 use Rattle.running.specs.Running.{PathCosts, room_checks, run_checks, returned, run_outcome, running, Runs}
 use Rattle.running.specs.Running as specs
 
 -- ---- the room and the lists
 module _ (room : ℕ) (cuts rows : List ℕ) where
-  pub no_room : room < 1 → 7 ≡ refusal (room_checks room cuts rows)
-  unfolding room_checks
-  no_room h = applies 7 (outside 1 limits.blocks room) _ (below-low 1 limits.blocks room h) (λ z. omega arith)
-
-  module _ (some : 1 ≤ room) where
-    pub large-room : limits.blocks < room → 7 ≡ refusal (room_checks room cuts rows)
-    unfolding room_checks
-    large-room h = applies 7 (outside 1 limits.blocks room) _ (above-high 1 limits.blocks room some h) (λ z. omega arith)
-
-    module _ (few : room ≤ limits.blocks) where
-      pub few-cuts : length cuts < (room - 1) * 3 → 8 ≡ refusal (room_checks room cuts rows)
-      unfolding room_checks
-      few-cuts h = passes 7 (outside 1 limits.blocks room) _ (inside 1 limits.blocks room some few) (applies 8 (ltb (length cuts) ((room - 1) * 3)) _ (lt-ltb (length cuts) ((room - 1) * 3) h) (λ z. omega arith))
-
-      module _ (c : (room - 1) * 3 ≤ length cuts) where
-        pub few-rows : length rows < (room - 1) * 3 → 8 ≡ refusal (room_checks room cuts rows)
-        unfolding room_checks
-        few-rows h =
-            passes 7 (outside 1 limits.blocks room) _ (inside 1 limits.blocks room some few)
-            (passes 8 (ltb (length cuts) ((room - 1) * 3)) _ (le-ltb (length cuts) ((room - 1) * 3) c)
-            (applies 8 (ltb (length rows) ((room - 1) * 3)) [] (lt-ltb (length rows) ((room - 1) * 3) h) (λ z. omega arith)))
-
-        pub enough : (room - 1) * 3 ≤ length rows → 0 ≡ refusal (room_checks room cuts rows)
-        unfolding room_checks
-        enough h =
-            passes 7 (outside 1 limits.blocks room) _ (inside 1 limits.blocks room some few)
-            (passes 8 (ltb (length cuts) ((room - 1) * 3)) _ (le-ltb (length cuts) ((room - 1) * 3) c)
-            (passes 8 (ltb (length rows) ((room - 1) * 3)) [] (le-ltb (length rows) ((room - 1) * 3) h) no-checks))
-
   -- what an accepted room leaves
   pub record Fits : Type 0 where
     pub some : 1 ≤ room
@@ -86,28 +60,28 @@ module _ (room : ℕ) (cuts rows : List ℕ) where
       }
 
 -- ---- a run's end
-known_more : (n m : ℕ) → n ≤ m → (r : Ended) (path : List ℕ) → KnownEnd n r path → KnownEnd m r path
+known_more : (n m : ℕ) → n ≤ m → (r : Ended) (path : List Step) → KnownEnd n r path → KnownEnd m r path
 unfolding KnownEnd
 known_more n m h (ended.Plan k b) path p = (p.0, λ i l. let q = p.1 i l in omega arith)
 known_more n m h (ended.NoPlan b) path p = p
 known_more n m h (ended.Open e b) path p = p
 
 -- a plan has a place for each step
-steps-fit : (t : Task) (room long : ℕ) (path : List ℕ) (o : Ended) → answer_of o path ≡ (refine t (room - 1) []).answer → ((ss : List Step) → (refine t (room - 1) []).answer ≡ plan ss → length ss < room)
+steps-fit : (t : Task) (room long : ℕ) (path : List Step) (o : Ended) → answer_of o path ≡ (refine t (room - 1) []).answer → ((ss : List Step) → (refine t (room - 1) []).answer ≡ plan ss → length ss < room)
     → (room - 1) * 3 ≤ long → StepsFit o long
 unfolding StepsFit answer_of path_steps
 steps-fit t room long path (ended.Plan n b) h short r = let p = short (path_steps n path) (sym h) in omega (arith, p, tab-length n (step_in path), r)
 steps-fit t room long path (ended.NoPlan b) h short r = tt
 steps-fit t room long path (ended.Open e b) h short r = tt
 
-costed : (t : Task) (steps : ℕ) (cost path : List ℕ) → ((s : Step) → s.0 < steps → cost_of t s ≡ get_or cost s.0 0) → (o : Ended) → KnownEnd steps o path → PathCosts t o path cost
+costed : (t : Task) (steps : ℕ) (cost : List ℕ) (path : List Step) → ((s : Step) → s.0 < steps → cost_of t s ≡ get_or cost s.0 0) → (o : Ended) → KnownEnd steps o path → PathCosts t o path cost
 unfolding PathCosts step_in KnownEnd
-costed t steps cost path f (ended.Plan n b) p = λ i h. f (step (get_or path i 0)) (p.1 i h)
+costed t steps cost path f (ended.Plan n b) p = λ i h. f (get_or path i (step 0)) (p.1 i h)
 costed t steps cost path f (ended.NoPlan b) p = tt
 costed t steps cost path f (ended.Open e b) p = tt
 
 -- the answer of a plan whose rows were put
-pub plan-told : (t : Task) (n blocks : ℕ) (path list₀ : List ℕ) {c : ℕ} {list : List ℕ} → (c ≡ costs t (path_steps n path)) × (list ≡ over (listed row_place (rows t (path_steps n path))) list₀)
+pub plan-told : (t : Task) (n blocks : ℕ) (path : List Step) (list₀ : List ℕ) {c : ℕ} {list : List ℕ} → (c ≡ costs t (path_steps n path)) × (list ≡ over (listed row_place (rows t (path_steps n path))) list₀)
     → (Plan c n blocks ≡ returned t blocks (plan (path_steps n path))) × (list ≡ over (listed row_place (rows_of t (plan (path_steps n path)))) list₀)
 unfolding returned rows_of path_steps
 plan-told t n blocks path list₀ r = (rw (tab-length n (step_in path)) (ap (λ (k : ℕ). Plan k n blocks) r.0), r.1)
@@ -117,67 +91,55 @@ module _ (s : List ℕ) (room : ℕ) (cuts rows : List ℕ) where
   unfolding running
   refusing e z = refused-is (λ n. run_outcome (Refused n) cuts rows) (run_checks s room cuts rows) _ e z
 
-  module _ {code : ℕ} (e : code ≡ judge_sheet s) where
-    sheet : code ≡ refusal (sheet_checks s)
-    unfolding judge_sheet
-    sheet = e
+  -- a refusal of the sheet
+  pub sheet-refused : {code : ℕ} → code ≡ judge_sheet s → (code ≡ 0 → ⊥) → Runs s room cuts rows (Refused code) cuts rows
+  unfolding run_checks judge_sheet
+  sheet-refused e z = refusing (e ∙ sym (refusal-append (sheet_checks s) _ ∙ stop (refusal (sheet_checks s)) _ (λ q. z (e ∙ q)))) z
 
-    -- a refusal of the sheet
-    pub sheet-refused : (code ≡ 0 → ⊥) → Runs s room cuts rows (Refused code) cuts rows
-    unfolding run_checks
-    sheet-refused z = refusing (sheet ∙ sym (refusal-append (sheet_checks s) _ ∙ stop (refusal (sheet_checks s)) _ (λ q. z (sheet ∙ q)))) z
+  module _ (e : 0 ≡ judge_sheet s) where
+    after : {x : ℕ} → x ≡ refusal (room_checks room cuts rows) → x ≡ refusal (run_checks s room cuts rows)
+    unfolding run_checks judge_sheet
+    after h = h ∙ sym (refusal-append (sheet_checks s) _ ∙ go (refusal (sheet_checks s)) _ (sym e))
 
-    module _ (z : code ≡ 0) where
-      pub fine : judge_sheet s ≡ 0
-      fine = sym e ∙ z
+    -- a refusal of the room or of the lists
+    pub room-refused : {r : ℕ} → r ≡ refusal (room_checks room cuts rows) → (r ≡ 0 → ⊥) → Runs s room cuts rows (Refused r) cuts rows
+    room-refused j n = refusing (after j) n
 
-      after : {x : ℕ} → x ≡ refusal (room_checks room cuts rows) → x ≡ refusal (run_checks s room cuts rows)
-      unfolding run_checks
-      after h = h ∙ sym (refusal-append (sheet_checks s) _ ∙ go (refusal (sheet_checks s)) _ (sym sheet ∙ z))
+    module _ (j : 0 ≡ refusal (room_checks room cuts rows)) where
+      pub fits : Fits room cuts rows
+      fits = room_fits room cuts rows (sym j)
 
-      module _ {r : ℕ} (j : r ≡ refusal (room_checks room cuts rows)) where
-        -- a refusal of the room or of the lists
-        pub room-refused : (r ≡ 0 → ⊥) → Runs s room cuts rows (Refused r) cuts rows
-        room-refused n = refusing (after j) n
+      abbrev t : Task
+      t = task_on s
 
-        module _ (k : r ≡ 0) where
-          pub fits : Fits room cuts rows
-          fits = room_fits room cuts rows (sym j ∙ k)
+      module _ {g : Tables} (p : Prepared (task_on s) g) where
+        pub columns-read : g.shape.columns ≡ columns_of s
+        columns-read = sym p.tabled.own.wide ∙ columns-on s
 
-          abbrev t : Task
-          t = task_on s
+        -- block 0 stands alone
+        module _ (old : List ℕ) (bs : Blocks) (one : bs.count ≡ 1) (n : bs.sets ≡ over (whole (task_on s)) old) where
+          pub parted : Uncut (task_on s) g.shape.columns bs
+          parted = first-parted (task_on s) p.tabled.task g.shape.columns bs (ap (λ (k : ℕ). blocks_in g.shape.columns k bs.sets) one ∙ whole-made s columns-read old n)
 
-          module _ {f : Frame} {tables : List ℕ} (p : Prepared (task_on s) f tables) where
-            pub columns-read : f.shape.columns ≡ columns_of s
-            columns-read = sym p.tabled.own.wide ∙ columns-on s
+          pub ready : First g bs
+          ready = record { task = task_on s; tabled = p.tabled; parted = parted }
 
-            -- the array has block 0
-            module _ (old : List ℕ) {sets : List ℕ} (n : sets ≡ over (whole (task_on s)) old) where
-              pub long : length old ≡ block_places → length sets ≡ block_places
-              long l = whole_long s columns-read fine old l n
+        module _ {o : Ended} {cuts' : List ℕ} {path : List Step} (w : RunEnds (refine (task_on s) (room - 1) []) o g.shape.steps cuts cuts' path) where
+          pub known : KnownEnd limits.steps o path
+          known = known_more g.shape.steps limits.steps (omega (arith, p.tabled.task.steps, p.tabled.own.long)) o path w.known
 
-              pub parted : Parted (task_on s) [] f.shape.columns 1 (block 0) sets
-              parted = first-parted (task_on s) p.tabled.task f.shape.columns sets (whole-made s columns-read old n)
+          pub room-for-steps : StepsFit o (length rows)
+          room-for-steps = steps-fit t room (length rows) path o w.answer (λ ss q. plan-short t p.tabled.task room fits.some ss (unfold run.run in q)) fits.rows_fit
 
-              pub ready : First f.shape tables f.costs sets
-              ready = record { task = task_on s; tabled = p.tabled; parted = parted }
+          pub path-costs : PathCosts (task_on s) o path g.costs
+          path-costs = costed (task_on s) g.shape.steps g.costs path p.tabled.own.cost o w.known
 
-            module _ {o : Ended} {cuts' path : List ℕ} (w : RunEnds (refine (task_on s) (room - 1) []) o f.shape.steps cuts cuts' path) where
-              pub known : KnownEnd limits.steps o path
-              known = known_more f.shape.steps limits.steps (omega (arith, p.tabled.task.steps, p.tabled.own.long)) o path w.known
-
-              pub room-for-steps : StepsFit o (length rows)
-              room-for-steps = steps-fit t room (length rows) path o w.answer (λ ss q. plan-short t p.tabled.task room fits.some ss (unfold run.run in q)) fits.rows_fit
-
-              pub path-costs : PathCosts (task_on s) o path f.costs
-              path-costs = costed (task_on s) f.shape.steps f.costs path p.tabled.own.cost o w.known
-
-              -- the run is made
-              pub ran : {a : Answer} {rows' : List ℕ} → (a ≡ returned (task_on s) (blocks_told o) (answer_of o path)) × (rows' ≡ over (listed row_place (rows_of (task_on s) (answer_of o path))) rows)
-                  → Runs s room cuts rows a cuts' rows'
-              unfolding running specs.made run.run
-              ran {a} {rows'} q =
-                  let n : 0 ≡ refusal (run_checks s room cuts rows) = after (sym (sym j ∙ k)) in
-                  let x : a ≡ returned t (run.block_count (refine t (room - 1) [])) (refine t (room - 1) []).answer = q.0 ∙ ap₂ (returned t) w.blocks w.answer in
-                  let y : rows' ≡ over (listed row_place (rows_of t (refine t (room - 1) []).answer)) rows = q.1 ∙ ap (λ (b : run.Answer). over (listed row_place (rows_of t b)) rows) w.answer in
-                  simp (eq-eqb (refusal (run_checks s room cuts rows)) 0 (sym n)) (rw (x, y, w.list) refl)
+          -- the run is made
+          pub ran : {a : Answer} {rows' : List ℕ} → (a ≡ returned (task_on s) (blocks_told o) (answer_of o path)) × (rows' ≡ over (listed row_place (rows_of (task_on s) (answer_of o path))) rows)
+              → Runs s room cuts rows (Done a) cuts' rows'
+          unfolding running specs.made run.run
+          ran {a} {rows'} q =
+              let n : 0 ≡ refusal (run_checks s room cuts rows) = after j in
+              let x : a ≡ returned t (run.block_count (refine t (room - 1) [])) (refine t (room - 1) []).answer = q.0 ∙ ap₂ (returned t) w.blocks w.answer in
+              let y : rows' ≡ over (listed row_place (rows_of t (refine t (room - 1) []).answer)) rows = q.1 ∙ ap (λ (b : run.Answer). over (listed row_place (rows_of t b)) rows) w.answer in
+              simp (eq-eqb (refusal (run_checks s room cuts rows)) 0 (sym n)) (rw (x, y, w.list) refl)

@@ -1,24 +1,27 @@
 // A run as a caller has it: everything judged, the run made, its cuts and rows put into lent lists.
 #![tactic(auto)]
 
-ghost use Rattle.std.specs.Prelude.{◌≡◌, ℕ, ◌*◌, ◌≤◌, ◌<◌, length, get_or};
+ghost use Rattle.std.specs.Prelude.{◌≡◌, ℕ, ◌-◌, ◌*◌, ◌≤◌, ◌<◌, length, get_or, IfOk};
 ghost use Rattle.task.specs.Loops.{over};
 ghost use Rattle.task.specs.Sizes.{limits};
-ghost use Rattle.task.specs.Task.{Task, costs};
+ghost use Rattle.task.specs.Task.{Task, step, costs};
 ghost use Rattle.fields.specs.Judging.{refusal};
+ghost use Rattle.fields.specs.Refusals.{refusal_number, Done, told};
 ghost use Rattle.run.specs.Run.{rows, rows_of};
 ghost use Rattle.run.specs.Listing.{listed, row_place};
-ghost use Rattle.walk.specs.Walking.{path_steps};
 ghost use Rattle.refining.specs.Refining.{answer_of, blocks_told, KnownEnd, StepsFit};
 ghost use Rattle.running.specs.Running.{Costed, PathCosts, room_checks, returned, Runs};
 ghost use Rattle.running.specs.Counts.{cut_value_count, row_count, row_value_count, Counted};
 
+use cutting::Blocks;
+use fields::refusal::Refusal;
+use masks::Tables;
 use preparing::{fill_whole, prepare};
 use refining::{Ended, refine};
 use sheets::judge_sheet;
-use task::{Costs, Model, Path, tenths};
+use task::{Costs, Model, Path, Step};
 
-// A plan with its cost and its number of steps, no plan, or open with the start's estimate, each with the number of blocks; or a refusal.
+// A plan with its cost and its number of steps, no plan, or open with the start's estimate, each with the number of blocks.
 #[derive(Clone, Copy)]
 pub enum Answer {
     Plan {
@@ -33,44 +36,41 @@ pub enum Answer {
         estimate: u32,
         blocks: usize,
     },
-    Refused(u8),
 }
 
-// The refusal of a room and of the lists' lengths: 7, then 8; 0 for none.
-fn judge_room(room: u32, cuts: &[u32], rows: &[u32]) -> u8
-    ensures { result ≡ refusal (room_checks room cuts.now rows.now) }
+// The refusal of a room and of the lists' lengths: 7, then 8. Answers for how many blocks there is room besides the first.
+fn judge_room(room: u32, cuts: &[u32], rows: &[u32]) -> Result<usize, Refusal>
+    ensures judged { refusal_number result ≡ refusal (room_checks room cuts.now rows.now) }
+    ensures spared { IfOk result (λ spare. spare ≡ room - 1) }
 {
-    if room < 1 {
-        return 7;
-    }
+    // A cast, since std has no From for it; nothing is lost.
     let blocks = room as usize;
-    if Model::BLOCKS < blocks {
-        return 7;
+    if blocks < 1 || Model::BLOCKS < blocks {
+        return Err(Refusal::Room);
     }
-    let places = (blocks - 1) * 3;
-    if cuts.len() < places {
-        return 8;
+    let spare = blocks - 1;
+    let places = spare * 3;
+    if cuts.len() < places || rows.len() < places {
+        return Err(Refusal::Places);
     }
-    if rows.len() < places {
-        return 8;
-    }
-    0
+    Ok(spare)
 }
 
 // Puts the rows of a path into a list, from the last to the first, and returns the cost of the path.
-fn fill_rows(count: usize, path: &Path, cost: &Costs, list: &mut [u32]) -> u32
-    requires { (count < limits.blocks) × (count * 3 ≤ length list.old) × ((i : ℕ) → i < count → get_or path.now i 0 < limits.steps) }
-    ensures { (t : Task) → Costed t count path.now cost.now → (result ≡ costs t (path_steps count path.now))
-        × (list.new ≡ over (listed row_place (rows t (path_steps count path.now))) list.old) }
+fn fill_rows(path: &[Step], cost: &Costs, list: &mut [u32]) -> u32
+    requires few { length path.now < limits.blocks }
+    requires room { length path.now * 3 ≤ length list.old }
+    requires known { (i : ℕ) → i < length path.now → (get_or path.now i (step 0)).0 < limits.steps }
+    ensures { (t : Task) → Costed t (length path.now) path.now cost.now → (result ≡ costs t path.now)
+        × (list.new ≡ over (listed row_place (rows t path.now)) list.old) }
 {
     let mut left: u32 = 0;
-    let mut i = count;
-    while 0 < i {
-        i -= 1;
+    // From the last row on, since a row has the tenths left after it.
+    for i in (0..path.len()).rev() {
         let step = path[i];
-        let paid = tenths(cost[step as usize]);
+        let paid = u32::from(cost[usize::from(step.0)]);
         let place = i * 3;
-        list[place] = step as u32;
+        list[place] = u32::from(step.0);
         list[place + 1] = paid;
         list[place + 2] = left;
         left += paid;
@@ -80,96 +80,71 @@ fn fill_rows(count: usize, path: &Path, cost: &Costs, list: &mut [u32]) -> u32
 
 // What a run that has ended answers, with the rows of its plan put into the list.
 fn tell(ended: Ended, path: &Path, cost: &Costs, list: &mut [u32]) -> Answer
-    requires { KnownEnd limits.steps ended path.now × StepsFit ended (length list.old) }
+    requires known { KnownEnd limits.steps ended path.now }
+    requires room { StepsFit ended (length list.old) }
     ensures { (t : Task) → PathCosts t ended path.now cost.now
         → (result ≡ returned t (blocks_told ended) (answer_of ended path.now))
         × (list.new ≡ over (listed row_place (rows_of t (answer_of ended path.now))) list.old) }
 {
     match ended {
-        Ended::Plan(steps, blocks) => {
-            let cost = fill_rows(steps, path, cost, list);
+        Ended::Plan { steps, blocks } => {
+            let cost = fill_rows(&path[..steps], cost, list);
             Answer::Plan {
                 cost,
                 steps,
                 blocks,
             }
         }
-        Ended::NoPlan(blocks) => Answer::NoPlan { blocks },
-        Ended::Open(estimate, blocks) => Answer::Open { estimate, blocks },
+        Ended::NoPlan { blocks } => Answer::NoPlan { blocks },
+        Ended::Open { estimate, blocks } => Answer::Open { estimate, blocks },
     }
 }
 
 // Judges a model sheet, the room and the lists, makes the run, and fills the lists with its cuts and the rows of its plan.
-pub fn run(sheet: &[u8], room: u32, cuts: &mut [u32], rows: &mut [u32]) -> Answer
-    ensures { Runs sheet.now room cuts.old rows.old result cuts.new rows.new }
+pub fn run(sheet: &[u8], room: u32, cuts: &mut [u32], rows: &mut [u32]) -> Result<Answer, Refusal>
+    ensures { Runs sheet.now room cuts.old rows.old (told result) cuts.new rows.new }
 {
-    let code = judge_sheet(sheet);
-    if code != 0 {
-        return Answer::Refused(code);
-    }
-    let r = judge_room(room, cuts, rows);
-    if r != 0 {
-        return Answer::Refused(r);
-    }
-    let spare = room as usize - 1;
-    let mut tables = [0u32; (2 * Model::STEPS + 2) * Model::COLUMNS];
-    let frame = prepare(sheet, &mut tables);
-    let shape = frame.shape;
-    let costs = frame.costs;
-    let columns = shape.columns;
-    let mut sets = [0u32; Model::BLOCKS * Model::COLUMNS];
-    fill_whole(sheet, columns, &mut sets);
-    let mut path = [0u8; Model::BLOCKS];
-    let ended = refine(shape, spare, &tables, &costs, &mut sets, cuts, &mut path);
-    tell(ended, &path, &costs, rows)
+    judge_sheet(sheet)?;
+    let spare = judge_room(room, cuts, rows)?;
+    let mut tables = Tables::new();
+    prepare(sheet, &mut tables);
+    let mut blocks = Blocks::new();
+    fill_whole(sheet, tables.shape.columns, &mut blocks);
+    let mut path = [Step(0); Model::BLOCKS];
+    let ended = refine(&tables, spare, &mut blocks, cuts, &mut path);
+    Ok(tell(ended, &path, &tables.costs, rows))
 }
 
 impl Answer {
     // A plan has a row for each step.
+    #[tactic(auto, unfolding(crate::specs::Counts::row_count))]
     pub fn row_count(self) -> usize
-        ensures { result ≡ row_count self }
+        ensures { result ≡ row_count (Done self) }
     {
         match self {
-            Answer::Plan {
-                cost: _,
-                steps,
-                blocks: _,
-            } => steps,
-            Answer::NoPlan { blocks: _ } => 0,
-            Answer::Open {
-                estimate: _,
-                blocks: _,
-            } => 0,
-            Answer::Refused(_) => 0,
+            Answer::Plan { steps, .. } => steps,
+            Answer::NoPlan { .. } | Answer::Open { .. } => 0,
         }
     }
 }
 
 // How many values the cuts of an answer take in the list: there is one cut less than blocks. No method, since a caller of the planner may have made up the
 // answer, and this asks for one of a run.
+#[tactic(auto, unfolding(crate::specs::Counts::cut_value_count, crate::specs::Counts::Counted))]
 pub fn cut_values(answer: Answer) -> usize
-    requires { Counted answer }
-    ensures { result ≡ cut_value_count answer }
+    requires { Counted (Done answer) }
+    ensures { result ≡ cut_value_count (Done answer) }
 {
-    match answer {
-        Answer::Plan {
-            cost: _,
-            steps: _,
-            blocks,
-        } => (blocks - 1) * 3,
-        Answer::NoPlan { blocks } => (blocks - 1) * 3,
-        Answer::Open {
-            estimate: _,
-            blocks,
-        } => (blocks - 1) * 3,
-        Answer::Refused(_) => 0,
-    }
+    let (Answer::Plan { blocks, .. } | Answer::NoPlan { blocks } | Answer::Open { blocks, .. }) =
+        answer;
+    (blocks - 1) * 3
 }
 
 // The same of its rows.
+#[tactic(auto, unfolding(crate::specs::Counts::row_value_count))]
 pub fn row_values(answer: Answer) -> usize
-    requires { Counted answer }
-    ensures { result ≡ row_value_count answer }
+    requires { Counted (Done answer) }
+    ensures { result ≡ row_value_count (Done answer) }
 {
     answer.row_count() * 3
 }

@@ -1,27 +1,28 @@
 -- A pass that lowers values, turn by turn, and the passes over all steps.
 use mathlib.Core.Path.{◌≡◌, refl, sym, ◌∙◌, ap}
-use mathlib.Core.Bool.{Bool, true, false, cond, ◌&&◌, false≢true, and-false}
+use mathlib.Core.Bool.{Bool, true, false, not, ◌&&◌, false≢true, and-false}
 use mathlib.Core.Logic.{◌⊎◌, inl, inr, ⊎_elim}
 use mathlib.Core.List.{List}
-use Prim.Native.Nat.{ℕ, ◌+◌, ◌-◌, ◌*◌, ◌/◌, ◌%◌, ◌<◌, ◌≤◌}
+use Prim.Native.Nat.{ℕ, ◌+◌, ◌-◌, ◌*◌, ◌/◌, ◌%◌, ◌<◌, ◌≤◌, min}
 use native.Mathlib.Decide.{dec_lt}
 use native.Mathlib.Omega.{arith}
-use borrow.Author.Count.{below_none, below_more}
-use borrow.Author.Tests.{eq-eqb, ne_eqb, eqb-false, lt-ltb, le-ltb}
+use borrow.Author.Count.{below_more}
+use borrow.Author.Tests.{eq-eqb, ne_eqb, lt-ltb, le-ltb}
 use lib.Dec.{eqb}
 use lib.ListN.{length, get_or, set}
 use lib.Seq.{get_or-set_same, get_or-set_other}
+use Rattle.task.specs.Sizes.{most_cost}
 use Rattle.task.proofs.LoopLaws.{and_left, and_right, and_both, true-or-false}
-use Rattle.blocks.specs.Masks.{leads_by}
-use Rattle.arcs.specs.Arcs.{Arc, fits_in}
+use Rattle.blocks.specs.Masks.{lands_in, leads_by}
+use Rattle.masks.specs.declared.Tables.{Tables}
+use Rattle.cutting.specs.declared.Blocks.{Blocks}
+use Rattle.arcs.specs.declared.Arcs.{Arcs}
+use Rattle.arcs.specs.Arcs.{Arc, fits_in, cost_in}
 use Rattle.arcs.specs.Words.{bit_at, in_word, open_in, Opened, told, told_in, word}
-use Rattle.settling.specs.Turns.{weight, Relaxed, Lowered, Started, Settled, Open}
-use Rattle.settling.specs.Ways.{no_way}
+use Rattle.arcs.proofs.ArcLaws.{arc-told}
+use Rattle.settling.specs.Turns.{weight, Relaxed, Lowered, Settled, Open, Turned}
 
 module _ (f : ℕ → Bool) (k : ℕ) (D : List ℕ) where
-  pub lowered_none : Lowered f k 0 D D
-  lowered_none = record { each = below_none _; rest = λ a h. refl }
-
   module _ {i : ℕ} {D' : List ℕ} (s : Lowered f k i D D') where
     pub lowered-skip : (f i ≡ true → get_or D' i 0 ≤ k) → Lowered f k (i + 1) D D'
     lowered-skip h =
@@ -30,14 +31,19 @@ module _ (f : ℕ → Bool) (k : ℕ) (D : List ℕ) where
           rest = λ a l. s.rest a (omega arith);
         }
 
-    pub lowered-set : i < length D' → f i ≡ true → k < get_or D' i 0 → Lowered f k (i + 1) D (set D' i k)
-    lowered-set l e h =
+    pub lowered-more : (v : ℕ) → i < length D' → f i ≡ true → v ≡ min k (get_or D' i 0) → Lowered f k (i + 1) D (set D' i v)
+    lowered-more v l e m =
+        let same = get_or-set_same D' i v 0 l in
+        let r = s.rest i (omega arith) in
         record {
           each =
               below_more _ i
-              (λ a b. rw (get_or-set_other D' i a k 0 (λ q. omega arith)) (s.each a b))
-              (inr (get_or-set_same D' i k 0 l, (let r = s.rest i (omega arith) in omega arith), e));
-          rest = λ a b. get_or-set_other D' i a k 0 (λ q. omega arith) ∙ s.rest a (omega arith);
+              (λ a b. rw (get_or-set_other D' i a v 0 (λ q. omega arith)) (s.each a b))
+              (elim (dec_lt k (get_or D' i 0)) [
+                | yes h ↦ inr (omega arith, omega arith, e)
+                | no h ↦ inl (omega arith, (λ t. omega arith))
+              ]);
+          rest = λ a b. get_or-set_other D' i a v 0 (λ q. omega arith) ∙ s.rest a (omega arith);
         }
 
     pub lowered-end : {n : ℕ} → i ≡ n → Lowered f k n D D'
@@ -70,25 +76,29 @@ lowered_open f g has k n m D D' h e out low l =
     }
 
 -- ---- the open blocks
-pub open_made : (count used : ℕ) (D F : List ℕ) (b : ℕ) (O : List ℕ) → Opened used (open_in count F) O → Settled count D F b → Open count used D b O
+pub open_made : (count used : ℕ) (D : List ℕ) (F : List Bool) (b : ℕ) (O : List ℕ) → Opened used (open_in count F) O → Settled count D F b → Open count used D b O
 unfolding open_in
 open_made count used D F b O o s =
     record {
       has = open_in count F;
       words_of = o;
       outside = λ a h. rw (le-ltb a count h);
-      low = λ a h e. s.low a h (eqb-false (get_or F a 0) 0 (sym (ap (λ t. t && eqb (get_or F a 0) 0) (lt-ltb a count h)) ∙ e));
+      low = λ a h e. s.low a h (not-false (get_or F a false) (sym (ap (λ t. t && not (get_or F a false)) (lt-ltb a count h)) ∙ e));
     }
+  where
+    not-false : (t : Bool) → not t ≡ false → t ≡ true
+    not-false true e = refl
+    not-false false e = absurd (false≢true (sym e))
 
 -- ---- a pass with a test that has a part which is the same everywhere
-module _ (columns few : ℕ) (narrow lands sets able meets left : List ℕ) (s b k n : ℕ) (D D' : List ℕ) where
+module _ (columns few : ℕ) (narrow lands sets able meets left : List ℕ) (s b k n : ℕ) (D : List ℕ) where
   pub no-landing : fits_in columns lands sets s b ≡ false → Lowered (told_in columns few narrow lands sets able meets left s b) k n D D
   unfolding told_in
   no-landing e = lowered-no _ k n D (λ a. rw e)
 
-  pub lands-there : fits_in columns lands sets s b ≡ true → Lowered (told few narrow lands able meets left s) k n D D' → Lowered (told_in columns few narrow lands sets able meets left s b) k n D D'
+  pub lands-there : {D' : List ℕ} → fits_in columns lands sets s b ≡ true → Lowered (told few narrow lands able meets left s) k n D D' → Lowered (told_in columns few narrow lands sets able meets left s b) k n D D'
   unfolding told_in
-  lands-there e = lowered-same _ _ k n D D' (λ a h. rw e)
+  lands-there {D'} e = lowered-same _ _ k n D D' (λ a h. rw e)
 
 -- ---- a word of blocks
 module _ (w v : ℕ) where
@@ -146,19 +156,17 @@ module _ (w v k : ℕ) (D : List ℕ) where
 pub record Part (n : ℕ) (lead : ℕ → ℕ → Bool) (cost : ℕ → ℕ) (D D' : List ℕ) (b s : ℕ) : Type 0 where
   pub each : (a : ℕ) → a < n → (get_or D' a 0 ≡ get_or D a 0) ⊎ ((x : ℕ) × (x < s) × (lead x a ≡ true) × (get_or D' a 0 ≡ get_or D b 0 + weight cost x) × (get_or D b 0 + weight cost x < get_or D a 0))
   pub tried : (a x : ℕ) → a < n → x < s → lead x a ≡ true → get_or D' a 0 ≤ get_or D b 0 + weight cost x
+  pub cheap : (x : ℕ) → x < s → cost x ≤ most_cost
   pub rest : (a : ℕ) → n ≤ a → get_or D' a 0 ≡ get_or D a 0
 
 module _ (n : ℕ) (lead : ℕ → ℕ → Bool) (cost : ℕ → ℕ) (b : ℕ) (D : List ℕ) where
-  pub part_none : Part n lead cost D D b 0
-  part_none = record { each = λ a h. inl refl; tried = λ a x h l. omega arith; rest = λ a h. refl }
-
   -- no value is greater than before
   pub part-down : {s : ℕ} {D' : List ℕ} → Part n lead cost D D' b s → (a : ℕ) → a < n → get_or D' a 0 ≤ get_or D a 0
   part-down p a h = ⊎_elim (λ e. omega arith) (λ v. omega arith) (p.each a h)
 
   module _ {s : ℕ} {D' D'' : List ℕ} (p : Part n lead cost D D' b s) (w : Lowered (lead s) (get_or D b 0 + weight cost s) n D' D'') where
-    pub part-more : Part n lead cost D D'' b (s + 1)
-    part-more =
+    pub part-more : cost s ≤ most_cost → Part n lead cost D D'' b (s + 1)
+    part-more low =
         record {
           each = λ a h.
               ⊎_elim
@@ -170,6 +178,7 @@ module _ (n : ℕ) (lead : ℕ → ℕ → Bool) (cost : ℕ → ℕ) (b : ℕ) 
               (λ y v e. let t = p.tried a y h v e in ⊎_elim (λ k. omega arith) (λ k. omega arith) (w.each a h))
               (λ e. ⊎_elim (λ k. let v = k.1 e in omega arith) (λ k. omega arith) (w.each a h))
               x l;
+          cheap = below_more (λ x. cost x ≤ most_cost) s p.cheap low;
           rest = λ a h. w.rest a h ∙ p.rest a h;
         }
 
@@ -182,16 +191,24 @@ module _ (columns n m : ℕ) (needs lands sets : List ℕ) (cost : ℕ → ℕ) 
             (λ v. inr (record { s = v.0; leads = record { out = h; by = omega arith; into = hb; leads = v.2 }; now-is = v.3; less = v.4 }))
             (p.each a h);
         tried = λ a s l. let z = l.by in p.tried a s l.out (omega arith) l.leads;
+        cheap = λ a s c l. let z = l.by in p.cheap s (omega arith);
         rest = p.rest;
       }
 
-module _ (g : ℕ → Bool) (D : List ℕ) where
-  pub started_none : Started g 0 D D
-  started_none = record { each = below_none _; rest = λ a h. refl }
-
-  pub started-more : {i v : ℕ} {D' : List ℕ} → Started g i D D' → i < length D' → v ≡ cond (g i) 0 no_way → Started g (i + 1) D (set D' i v)
-  started-more {i} {v} {D'} s l e =
-      record {
-        each = below_more _ i (λ a b. get_or-set_other D' i a v 0 (λ q. omega arith) ∙ s.each a b) (get_or-set_same D' i v 0 l ∙ e);
-        rest = λ a b. get_or-set_other D' i a v 0 (λ q. omega arith) ∙ s.rest a (omega arith);
-      }
+-- step s is tried: a pass over the open blocks gives a value to each of which it leads to the settled block
+module _ (t : Tables) (bs : Blocks) (arcs : Arcs) (b s : ℕ) (D D' D'' : List ℕ) where
+  pub tried-more : Turned t bs arcs D b → s < t.shape.steps → cost_in t.costs s ≤ most_cost
+      → Part bs.count (λ x a. leads_by t.shape.columns t.rows (lands_in t.rows) bs.sets x a b) (cost_in t.costs) D D' b s
+      → Lowered (told_in t.shape.columns arcs.few arcs.narrow (lands_in t.rows) bs.sets arcs.able arcs.meets arcs.left s b)
+      (get_or D b 0 + weight (cost_in t.costs) s) (arcs.used * word) D' D''
+      → Part bs.count (λ x a. leads_by t.shape.columns t.rows (lands_in t.rows) bs.sets x a b) (cost_in t.costs) D D'' b (s + 1)
+  tried-more p more low part w =
+      let o = p.opened in
+      part-more _ _ _ _ _ part
+      (lowered_open _ _ o.has _ _ (arcs.used * word) _ _ (omega (arith, p.used))
+      (λ a h. arc-told t.shape.columns t.shape.steps arcs.used arcs.few t.rows (lands_in t.rows) bs.sets b
+      arcs.able arcs.meets arcs.left arcs.narrow o.has p.able p.met o.words_of p.narrow s a more (omega (arith, h)))
+      o.outside
+      (λ a h e. let d = part-down _ _ _ _ _ part a h in let u = o.low a h e in omega (arith, d, u))
+      w)
+      low

@@ -16,7 +16,7 @@ use Rattle.fields.proofs.PlaceLaws.{same_place}
 use Rattle.sheets.specs.ModelSheet.{Source, entries, model_bytes}
 use Rattle.sheets.specs.LentTables.{column_in, marks_in, of_tables, too_few, write_checks}
 use Rattle.sheets.proofs.RoundLaws.{Same, same-fields}
-use Rattle.writing.specs.declared.write.SheetWritten.TheVariants.{Sheet, Refused}
+use Rattle.fields.specs.Refusals.{Done, Refused}
 use Rattle.writing.specs.Writing.{write_outcome, writing}
 
 module _ (n m : ℕ) (f f' c c' k k' : List ℕ) (frames : take (n * 3) f ≡ take (n * 3) f') (costs : take m c ≡ take m c') (marks : take (m * (n * 2)) k ≡ take (m * (n * 2)) k') where
@@ -58,4 +58,4 @@ module _ (n m : ℕ) (f f' c c' k k' : List ℕ) (frames : take (n * 3) f ≡ ta
   first-places sheet =
       ap (λ (es : List Entry).
       let r = refusal (checks_of es ++ (too_few (model_bytes n m) sheet ∷ [])) in
-      cond (eqb r 0) (write_outcome (Sheet (model_bytes n m)) (over (sheet_of es) sheet)) (write_outcome (Refused r) sheet)) same_entries
+      cond (eqb r 0) (write_outcome (Done (model_bytes n m)) (over (sheet_of es) sheet)) (write_outcome (Refused r) sheet)) same_entries

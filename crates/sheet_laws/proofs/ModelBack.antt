@@ -6,7 +6,8 @@ use mathlib.Core.Path.{◌≡◌, ap, ap₂, ◌∙◌}
 use mathlib.Core.List.{List}
 use borrow.Author.Tests.{eq-eqb, lt-ltb, le-ltb}
 use Rattle.task.specs.Sizes.{limits, step_places}
-use Rattle.task.specs.declared.Mark.{Mark}
+use Rattle.std.specs.Prelude as maybe
+use Rattle.task.specs.declared.Position.{Position}
 use Rattle.task.specs.Loops.{tab, over}
 use Rattle.task.specs.Task.{position}
 use Rattle.task.specs.Tables.{mark}
@@ -16,7 +17,8 @@ use Rattle.fields.specs.Packing.{sheet_of}
 use Rattle.sheets.specs.ModelSheet.{Source, ColumnFields, MarkFields, columns_in, steps_in, entries, of_sheet}
 use Rattle.sheets.specs.Holding.{column_said, change_said, step_said, task_in, unused, mark_place, mark_table, model_of}
 use Rattle.sheets.proofs.RoundLaws.{Same, written_same, written-accepted}
-use Rattle.unpack.specs.Unpacking.{answer, unpacked}
+use Rattle.fields.specs.Refusals.{Done}
+use Rattle.unpack.specs.Unpacking.{unpacked}
 
 -- ---- task and model go by the fields below the counts alone
 module _ (p q : Source) (n m : ℕ) (e : Same p q n m) where
@@ -42,7 +44,7 @@ module _ (p q : Source) (n m : ℕ) (e : Same p q n m) where
 
   same-table : (f g : ℕ → ℕ → ℕ) → ((j i : ℕ) → j < m → i < n → f j i ≡ g j i) → mark_table f n m ≡ mark_table g n m
   unfolding mark_table
-  same-table f g h = ap (λ (t : List Mark). over t (unused step_places (mark 0))) (tab-ext (m * limits.columns) (mark_place f n) (mark_place g n) (λ k l. same_place f g h k l))
+  same-table f g h = ap (λ (t : List (maybe.Option Position)). over t (unused step_places maybe.None)) (tab-ext (m * limits.columns) (mark_place f n) (mark_place g n) (λ k l. same_place f g h k l))
 
 module _ (p q : Source) (e : Same p q (columns_in q) (steps_in q)) where
   abbrev n : ℕ
@@ -73,13 +75,13 @@ module _ (p q : Source) (e : Same p q (columns_in q) (steps_in q)) where
         steps = count-steps k;
         size = over ((ap (λ (x : ℕ). tab x (λ i. (p.column i).size.value)) count-columns ∙ tab-ext n (λ i. (p.column i).size.value) (λ i. (q.column i).size.value) (λ i h. ap (λ (c : ColumnFields). c.size.value) (e.column i h))) k) (unused limits.columns 0);
         start = over ((ap (λ (x : ℕ). tab x (λ i. position (p.column i).start.value)) count-columns ∙ tab-ext n (λ i. position (p.column i).start.value) (λ i. position (q.column i).start.value) (λ i h. ap (λ (c : ColumnFields). position c.start.value) (e.column i h))) k) (unused limits.columns (position 0));
-        goal = over ((ap (λ (x : ℕ). tab x (λ i. mark (p.column i).goal.value)) count-columns ∙ tab-ext n (λ i. mark (p.column i).goal.value) (λ i. mark (q.column i).goal.value) (λ i h. ap (λ (c : ColumnFields). mark c.goal.value) (e.column i h))) k) (unused limits.columns (mark 0));
+        goal = over ((ap (λ (x : ℕ). tab x (λ i. mark (p.column i).goal.value)) count-columns ∙ tab-ext n (λ i. mark (p.column i).goal.value) (λ i. mark (q.column i).goal.value) (λ i h. ap (λ (c : ColumnFields). mark c.goal.value) (e.column i h))) k) (unused limits.columns maybe.None);
         cost = over ((ap (λ (x : ℕ). tab x (λ j. (p.cost j).value)) count-steps ∙ tab-ext m (λ j. (p.cost j).value) (λ j. (q.cost j).value) (λ j h. ap (λ (f : Field). f.value) (e.cost j h))) k) (unused limits.steps 0);
         need = (ap₂ (λ (x y : ℕ). mark_table (λ j i. (p.marks j i).need.value) x y) count-columns count-steps ∙ same-table p q n m e (λ j i. (p.marks j i).need.value) (λ j i. (q.marks j i).need.value) (λ j i h l. ap (λ (f : MarkFields). f.need.value) (e.marks j i h l))) k;
         effect = (ap₂ (λ (x y : ℕ). mark_table (λ j i. (p.marks j i).effect.value) x y) count-columns count-steps ∙ same-table p q n m e (λ j i. (p.marks j i).effect.value) (λ j i. (q.marks j i).effect.value) (λ j i h l. ap (λ (f : MarkFields). f.effect.value) (e.marks j i h l))) k;
       }
 
 -- the sheet of accepted fields is read as their model
-pub model-back : (p : Source) → judged (entries p) ≡ 0 → ((j : ℕ) → j < steps_in p → (p.cost j).value < 2 ^ 16) → unpacked (sheet_of (entries p)) ≡ answer 0 (model_of p)
+pub model-back : (p : Source) → judged (entries p) ≡ 0 → ((j : ℕ) → j < steps_in p → (p.cost j).value < 2 ^ 16) → unpacked (sheet_of (entries p)) ≡ Done (model_of p)
 unfolding unpacked entries
-model-back p ok costs = simp (eq-eqb _ 0 (written-accepted p ok costs)) (ap (answer 0) (same-model (of_sheet (sheet_of (entries p))) p (written_same p ok costs)))
+model-back p ok costs = simp (eq-eqb _ 0 (written-accepted p ok costs)) (ap Done (same-model (of_sheet (sheet_of (entries p))) p (written_same p ok costs)))

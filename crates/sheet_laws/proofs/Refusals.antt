@@ -12,10 +12,9 @@ use Rattle.fields.proofs.ExactLaws.{has, Numbers, fields-append, fields-each, nu
 use Rattle.sheets.specs.ModelSheet.{Source, columns_in, steps_in, columns_of, steps_of, model_bytes, header_part, column_part, marks_part, step_part, fill_part, fields_part, entries, of_sheet, sheet_checks}
 use Rattle.sheets.specs.LentTables.{frame_of, costs_of, marks_of, read_checks, write_checks}
 use Rattle.sheets.proofs.SheetLaws.{H, C, S, F}
-use Rattle.reading.specs.declared.ModelRead.TheVariants.{Held, Refused}
-use Rattle.reading.specs.Reading.{ReadOutcome, read_outcome, number, reading}
-use Rattle.writing.specs.declared.write.SheetWritten.TheVariants.{Sheet, Refused as NotWritten}
-use Rattle.writing.specs.Writing.{WriteOutcome as Written, write_outcome as written, number as write_number, writing}
+use Rattle.fields.specs.Refusals.{Done, Refused, told_number}
+use Rattle.reading.specs.Reading.{ReadOutcome, counts, read_outcome, reading}
+use Rattle.writing.specs.Writing.{WriteOutcome as Written, write_outcome as written, writing}
 
 -- which numbers a sheet can get, and whoever reads or writes one
 abbrev pub numbers : List ℕ
@@ -46,9 +45,9 @@ module _ (s frame costs marks : List ℕ) where
   unfolding read_checks
   read-numbers = numbers-append (has lent_numbers) numbers refl (sheet_checks s) _ (sheet-numbers s) refl
 
-  pub reader : Judged (λ (o : ReadOutcome). number o.answer) (λ n. read_outcome (Refused n) frame costs marks) (read_checks s frame costs marks)
-      (read_outcome (Held (columns_of s) (steps_of s)) (over (frame_of (of_sheet s)) frame) (over (costs_of (of_sheet s)) costs) (over (marks_of (of_sheet s)) marks)) (reading s frame costs marks)
-  unfolding reading number
+  pub reader : Judged (λ (o : ReadOutcome). told_number o.answer) (λ n. read_outcome (Refused n) frame costs marks) (read_checks s frame costs marks)
+      (read_outcome (Done (counts (columns_of s) (steps_of s))) (over (frame_of (of_sheet s)) frame) (over (costs_of (of_sheet s)) costs) (over (marks_of (of_sheet s)) marks)) (reading s frame costs marks)
+  unfolding reading
   reader = judges _ _ lent_numbers refl (read_checks s frame costs marks) read-numbers _ refl refl
 
 -- ---- the writer
@@ -57,7 +56,7 @@ module _ (p : Source) (sheet : List ℕ) where
   unfolding write_checks
   write-numbers = numbers-append (has lent_numbers) numbers refl (checks_of (entries p)) _ (model-numbers p) refl
 
-  pub writer : Judged (λ (o : Written). write_number o.answer) (λ n. written (NotWritten n) sheet) (write_checks p sheet)
-      (written (Sheet (model_bytes (columns_in p) (steps_in p))) (over (sheet_of (entries p)) sheet)) (writing p sheet)
-  unfolding writing write_number
+  pub writer : Judged (λ (o : Written). told_number o.answer) (λ n. written (Refused n) sheet) (write_checks p sheet)
+      (written (Done (model_bytes (columns_in p) (steps_in p))) (over (sheet_of (entries p)) sheet)) (writing p sheet)
+  unfolding writing
   writer = judges _ _ lent_numbers refl (write_checks p sheet) write-numbers _ refl refl

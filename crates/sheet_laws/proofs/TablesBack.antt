@@ -16,10 +16,9 @@ use Rattle.sheets.specs.ModelSheet.{Source, ColumnFields, MarkFields, columns_in
 use Rattle.sheets.specs.LentTables.{column_values, cost_value, mark_values, step_values, frame_of, costs_of, marks_of, column_in, marks_in, of_tables, read_checks, write_checks}
 use Rattle.sheets.proofs.TableLaws.{column-length, cost-length, pair-length, row-length, frame-length, costs-length, marks-length}
 use Rattle.sheets.proofs.RoundLaws.{Fine, Same, same-fields, accepted, written_same, written-accepted, own-fine, exact-length, read-write}
-use Rattle.reading.specs.declared.ModelRead.TheVariants.{Held}
-use Rattle.reading.specs.Reading.{read_outcome, reading}
+use Rattle.fields.specs.Refusals.{Done}
+use Rattle.reading.specs.Reading.{counts, read_outcome, reading}
 use Rattle.sheets.proofs.SheetLaws.{sheet-fine}
-use Rattle.writing.specs.declared.write.SheetWritten.TheVariants.{Sheet}
 use Rattle.writing.specs.Writing.{write_outcome as written, writing}
 
 -- ---- what the tables of a model hold goes by its fields
@@ -113,11 +112,11 @@ module _ (n m : ℕ) (frame costs marks : List ℕ) (ok : judged (entries (of_ta
     tables-found = (same-frame (of_sheet S) P whole ∙ frame-given, same-costs (of_sheet S) P whole ∙ costs-given, same-marks (of_sheet S) P whole ∙ marks-given)
 
     -- written and read back gives the same tables, in any tables that are long enough
-    pub tables-back : (f c k : List ℕ) → n * 3 ≤ length f → m ≤ length c → m * (n * 2) ≤ length k → reading S f c k ≡ read_outcome (Held n m) (over (take (n * 3) frame) f) (over (take m costs) c) (over (take (m * (n * 2)) marks) k)
+    pub tables-back : (f c k : List ℕ) → n * 3 ≤ length f → m ≤ length c → m * (n * 2) ≤ length k → reading S f c k ≡ read_outcome (Done (counts n m)) (over (take (n * 3) frame) f) (over (take m costs) c) (over (take (m * (n * 2)) marks) k)
     unfolding reading entries
     tables-back f c k hf hc hk =
         simp (eq-eqb (refusal (read_checks S f c k)) 0 (no-refusal S f c k (written-accepted P ok fits-tenths) (rw written-counts.0 hf) (rw written-counts.1 hc) (rw (written-counts.0, written-counts.1) hk)))
-        (λ t. read_outcome (Held (written-counts.0 t) (written-counts.1 t)) (over (tables-found.0 t) f) (over (tables-found.1 t) c) (over (tables-found.2 t) k))
+        (λ t. read_outcome (Done (counts (written-counts.0 t) (written-counts.1 t))) (over (tables-found.0 t) f) (over (tables-found.1 t) c) (over (tables-found.2 t) k))
 
 -- ---- a writer refuses nothing of accepted fields where the bytes are enough
 write-fine : (p : Source) (sheet : List ℕ) → judged (entries p) ≡ 0 → model_bytes (columns_in p) (steps_in p) ≤ length sheet → refusal (write_checks p sheet) ≡ 0
@@ -210,10 +209,10 @@ module _ (s : List ℕ) (ok : judge_sheet s ≡ 0) (bs : Bytes s) (f c k : List 
   unfolding of_sheet sheet_with
   again = filled-entries (of_sheet s) (own-fine s ok) f c k
 
-  pub bytes_back : (sheet : List ℕ) → length s ≤ length sheet → writing R sheet ≡ written (Sheet (length s)) (over s sheet)
+  pub bytes_back : (sheet : List ℕ) → length s ≤ length sheet → writing R sheet ≡ written (Done (length s)) (over s sheet)
   unfolding writing of_tables
   bytes_back sheet h =
-      simp (eq-eqb (refusal (write_checks R sheet)) 0 no-write-refusal) (λ t. written (Sheet (sym (exact-length s ok) t)) (over ((ap sheet_of again ∙ read-write s ok bs) t) sheet))
+      simp (eq-eqb (refusal (write_checks R sheet)) 0 no-write-refusal) (λ t. written (Done (sym (exact-length s ok) t)) (over ((ap sheet_of again ∙ read-write s ok bs) t) sheet))
     where
       room : model_bytes (columns_in R) (steps_in R) ≤ length sheet
       room = subst (λ (x : ℕ). x ≤ length sheet) (exact-length s ok) h

@@ -1,4 +1,5 @@
 -- The task that an accepted sheet says: the model by value is it, it is within 01's limits, and the sheet is its only one.
+use Rattle.std.specs.Prelude as maybe
 use Prim.Native.Nat.{ℕ, zero, suc, ◌+◌, ◌*◌, ◌/◌, ◌%◌, ◌^◌, ◌≤◌, ◌<◌}
 use native.Mathlib.Omega.{arith}
 use native.Mathlib.Decide.{dec_lt}
@@ -24,13 +25,13 @@ use Rattle.sheets.specs.Holding.{column_said, change_said, step_said, task_in, u
 use Rattle.sheets.proofs.RoundLaws.{Fine, Same, same-fields, same-sheets, own-fine}
 
 -- ---- the model by value is the task that the fields say
-table_at : (f : ℕ → ℕ → ℕ) (n m j i : ℕ) → n ≤ limits.columns → j < m → i < n → get_or (mark_table f n m) (j * limits.columns + i) (mark 0) ≡ mark (f j i)
+table_at : (f : ℕ → ℕ → ℕ) (n m j i : ℕ) → n ≤ limits.columns → j < m → i < n → get_or (mark_table f n m) (j * limits.columns + i) maybe.None ≡ mark (f j i)
 unfolding mark_table mark_place
 table_at f n m j i h hj hi =
     let k = j * limits.columns + i in
     let d : k / limits.columns ≡ j = omega arith in
     let r : k % limits.columns ≡ i = omega arith in
-    over-at (m * limits.columns) (mark_place f n) _ (mark 0) k (omega arith) ∙ simp (r, d, lt-ltb i n hi)
+    over-at (m * limits.columns) (mark_place f n) _ maybe.None k (omega arith) ∙ simp (r, d, lt-ltb i n hi)
 
 module _ (p : Source) (hn : columns_in p ≤ limits.columns) where
   column-held : (i : ℕ) → i < columns_in p → column_entry (model_of p) i ≡ column_said p.column i
@@ -39,7 +40,7 @@ module _ (p : Source) (hn : columns_in p ≤ limits.columns) where
       λ k. record {
         size = over-at (columns_in p) (λ i. (p.column i).size.value) (unused limits.columns 0) 0 i h k;
         start = over-at (columns_in p) (λ i. position (p.column i).start.value) (unused limits.columns (position 0)) (position 0) i h k;
-        goal = marked (over-at (columns_in p) (λ i. mark (p.column i).goal.value) (unused limits.columns (mark 0)) (mark 0) i h k);
+        goal = marked (over-at (columns_in p) (λ i. mark (p.column i).goal.value) (unused limits.columns maybe.None) maybe.None i h k);
       }
 
   change-held : (j i : ℕ) → j < steps_in p → i < columns_in p → change_entry (model_of p) j i ≡ change_said p.marks j i

@@ -12,7 +12,7 @@ use Rattle.fields.specs.Bits.{field_at}
 use Rattle.task.specs.Sizes.{limits}
 use Rattle.fields.specs.Judging.{Field, Entry, Check, on_sheet, entry, free, outside, follows, refusal, judged, each}
 use Rattle.fields.proofs.JudgingLaws.{both, stopped, went, first_fine, inside-means, last-both, last-stopped, last-went, passes, passed, no-checks}
-use Rattle.sheets.specs.ModelSheet.{Source, ColumnFields, MarkFields, header_part, column_part, marks_part, step_part, fill_part, model_bits, most_bits, fill_bits, fields_part, entries, columns_of, steps_of, sheet_with, of_sheet, model_end, judge_part, sheet_checks, judge_sheet}
+use Rattle.sheets.specs.ModelSheet.{Source, ColumnFields, MarkFields, header_part, column_part, marks_part, step_part, fill_part, model_bits, most_bits, fill_bits, body_part, fields_part, entries, columns_of, steps_of, sheet_with, of_sheet, model_end, judge_part, sheet_checks, judge_sheet}
 
 -- the steps of a model lie low
 pub bits-le : (n j : ℕ) → n ≤ limits.columns → j ≤ limits.steps → model_bits n j ≤ most_bits
@@ -75,6 +75,11 @@ module _ (c : ℕ → ColumnFields) (i : ℕ) where
   unfolding column_part
   size-bad e h = stopped size_e (start_e (c i).size.value ++ mark_e (c i).goal (c i).size.value) e h
 
+  -- a column without refusal has its size
+  pub size-here : judged (column_part c i) ≡ 0 → (c i).size.here ≡ true
+  unfolding column_part
+  size-here h = (first_fine (entry 6 (c i).size 4 (outside 1 limits.positions (c i).size.value)) _ (omega arith) h).0.0
+
   module _ {r size : ℕ} (e : r ≡ judged size_e) (z : r ≡ 0) (q : size ≡ (c i).size.value) where
     pub start-bad : {x : ℕ} → x ≡ judged (start_e size) → (x ≡ 0 → ⊥) → x ≡ judged (column_part c i)
     unfolding column_part
@@ -108,16 +113,6 @@ module _ (c : ℕ → ColumnFields) (cost : ℕ → Field) (k : ℕ → ℕ → 
   unfolding step_part
   marks-last e z h = went cost_e (each n (marks_part c k j)) e z h
 
--- a field judged at a position that is known by another name
-pub field-at : (s : List ℕ) (w low high code : ℕ) {a b x : ℕ} → a ≡ b → x ≡ judged (entry w (on_sheet s a w) code (outside low high (field_at s a w)) ∷ []) → x ≡ judged (entry w (on_sheet s b w) code (outside low high (field_at s b w)) ∷ [])
-field-at s w low high code q e = e ∙ ap (λ (x : ℕ). judged (entry w (on_sheet s x w) code (outside low high (field_at s x w)) ∷ [])) q
-
-pub below_at : (s : List ℕ) (w size code : ℕ) {a b x : ℕ} → a ≡ b → x ≡ judged (entry w (on_sheet s a w) code (leb size (field_at s a w)) ∷ []) → x ≡ judged (entry w (on_sheet s b w) code (leb size (field_at s b w)) ∷ [])
-below_at s w size code q e = e ∙ ap (λ (x : ℕ). judged (entry w (on_sheet s x w) code (leb size (field_at s x w)) ∷ [])) q
-
-pub free-at : (s : List ℕ) (w : ℕ) {a b x : ℕ} → a ≡ b → x ≡ judged (free w (on_sheet s a w) ∷ []) → x ≡ judged (free w (on_sheet s b w) ∷ [])
-free-at s w q e = e ∙ ap (λ (x : ℕ). judged (free w (on_sheet s x w) ∷ [])) q
-
 -- ---- a whole sheet, part after part
 module _ (p : Source) (n m : ℕ) where
   abbrev pub H : List Entry
@@ -137,19 +132,21 @@ module _ (p : Source) (n m : ℕ) where
     unfolding fields_part
     part-header h = stopped H (C ++ (S ++ F)) e h
 
-    module _ (z : r ≡ 0) {x : ℕ} (g : x ≡ judged C) where
-      pub part-columns : (x ≡ 0 → ⊥) → x ≡ judged (fields_part p n m)
-      unfolding fields_part
-      part-columns h = went H (C ++ (S ++ F)) e z (stopped C (S ++ F) g h)
+    pub part-body : r ≡ 0 → {x : ℕ} → x ≡ judged (body_part p n m) → x ≡ judged (fields_part p n m)
+    unfolding fields_part
+    part-body z h = went H (body_part p n m) e z h
 
-      module _ (w : x ≡ 0) {y : ℕ} (k : y ≡ judged S) where
-        pub part-steps : (y ≡ 0 → ⊥) → y ≡ judged (fields_part p n m)
-        unfolding fields_part
-        part-steps h = went H (C ++ (S ++ F)) e z (went C (S ++ F) g w (stopped S F k h))
+  -- what follows the header
+  module _ {r : ℕ} (e : r ≡ judged C) where
+    pub body-columns : (r ≡ 0 → ⊥) → r ≡ judged (body_part p n m)
+    body-columns h = stopped C (S ++ F) e h
 
-        pub part-fill : y ≡ 0 → {f : ℕ} → f ≡ judged F → f ≡ judged (fields_part p n m)
-        unfolding fields_part
-        part-fill h {f} q = went H (C ++ (S ++ F)) e z (went C (S ++ F) g w (went S F k h q))
+    module _ (z : r ≡ 0) {x : ℕ} (g : x ≡ judged S) where
+      pub body-steps : (x ≡ 0 → ⊥) → x ≡ judged (body_part p n m)
+      body-steps h = went C (S ++ F) e z (stopped S F g h)
+
+      pub body-fill : x ≡ 0 → {y : ℕ} → y ≡ judged F → y ≡ judged (body_part p n m)
+      body-fill h k = went C (S ++ F) e z (went S F g h k)
 
   -- no refusal: none in any part
   pub parts-fine : judged (fields_part p n m) ≡ 0 → (judged H ≡ 0) × (judged C ≡ 0) × (judged S ≡ 0) × (judged F ≡ 0)

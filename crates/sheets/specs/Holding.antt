@@ -1,7 +1,8 @@
 -- Which task a sheet holds, and its model by value.
 use Rattle.std.specs.Prelude.{ℕ, ◌*◌, ◌/◌, ◌%◌, cond, List, replicate, ltb}
 use Rattle.task.specs.declared.Model.{Model}
-use Rattle.task.specs.declared.Mark.{Mark}
+use Rattle.std.specs.Prelude as maybe
+use Rattle.task.specs.declared.Position.{Position}
 use Rattle.task.specs.Loops.{tab, over}
 use Rattle.task.specs.Sizes.{limits, step_places}
 use Rattle.task.specs.Task.{Task, ColumnEntry, Change, StepEntry, position}
@@ -27,11 +28,11 @@ unfoldable pub unused : {A : Type 0} → ℕ → A → List A
 unused places a = replicate places a
 
 -- place k of a table of marks: by step and column, each step with a place for every column that a model can have; or none past the n columns
-unfoldable pub mark_place : (ℕ → ℕ → ℕ) → ℕ → ℕ → Mark
-mark_place f n k = cond (ltb (k % limits.columns) n) (mark (f (k / limits.columns) (k % limits.columns))) (mark 0)
+unfoldable pub mark_place : (ℕ → ℕ → ℕ) → ℕ → ℕ → maybe.Option Position
+mark_place f n k = cond (ltb (k % limits.columns) n) (mark (f (k / limits.columns) (k % limits.columns))) maybe.None
 
-unfoldable pub mark_table : (ℕ → ℕ → ℕ) → ℕ → ℕ → List Mark
-mark_table f n m = over (tab (m * limits.columns) (mark_place f n)) (unused step_places (mark 0))
+unfoldable pub mark_table : (ℕ → ℕ → ℕ) → ℕ → ℕ → List (maybe.Option Position)
+mark_table f n m = over (tab (m * limits.columns) (mark_place f n)) (unused step_places maybe.None)
 
 unfoldable pub model_of : Source → Model
 model_of p =
@@ -40,24 +41,10 @@ model_of p =
       steps = steps_in p;
       size = over (tab (columns_in p) (λ i. (p.column i).size.value)) (unused limits.columns 0);
       start = over (tab (columns_in p) (λ i. position (p.column i).start.value)) (unused limits.columns (position 0));
-      goal = over (tab (columns_in p) (λ i. mark (p.column i).goal.value)) (unused limits.columns (mark 0));
+      goal = over (tab (columns_in p) (λ i. mark (p.column i).goal.value)) (unused limits.columns maybe.None);
       cost = over (tab (steps_in p) (λ j. (p.cost j).value)) (unused limits.steps 0);
       need = mark_table (λ j i. (p.marks j i).need.value) (columns_in p) (steps_in p);
       effect = mark_table (λ j i. (p.marks j i).effect.value) (columns_in p) (steps_in p);
-    }
-
--- the model of no columns and no steps, which goes with a refusal
-unfoldable pub no_model : Model
-no_model =
-    record {
-      columns = 0;
-      steps = 0;
-      size = unused limits.columns 0;
-      start = unused limits.columns (position 0);
-      goal = unused limits.columns (mark 0);
-      cost = unused limits.steps 0;
-      need = unused step_places (mark 0);
-      effect = unused step_places (mark 0);
     }
 
 -- the task that a sheet holds

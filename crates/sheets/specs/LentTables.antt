@@ -51,10 +51,13 @@ of_tables n m frame costs marks =
 abbrev pub too_few : {A : Type 0} → ℕ → List A → Check
 too_few places table = check 8 (ltb (length table) places)
 
+-- of a model of n columns and m steps
+abbrev pub table_checks : ℕ → ℕ → List ℕ → List ℕ → List ℕ → List Check
+table_checks n m frame costs marks = too_few (n * 3) frame ∷ too_few m costs ∷ too_few (m * (n * 2)) marks ∷ []
+
 -- a reader judges the sheet, and last the tables
 unfoldable pub read_checks : List ℕ → List ℕ → List ℕ → List ℕ → List Check
-read_checks s frame costs marks =
-    sheet_checks s ++ (too_few (columns_of s * 3) frame ∷ too_few (steps_of s) costs ∷ too_few (steps_of s * (columns_of s * 2)) marks ∷ [])
+read_checks s frame costs marks = sheet_checks s ++ table_checks (columns_of s) (steps_of s) frame costs marks
 
 -- a writer judges the same fields, and last the room for the bytes
 unfoldable pub write_checks : Source → List ℕ → List Check

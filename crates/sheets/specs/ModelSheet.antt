@@ -75,11 +75,23 @@ fill_bits bits = (8 - bits % 8) % 8
 unfoldable pub fill_part : ℕ → Field → List Entry
 fill_part bits fill = entry (fill_bits bits) fill 6 (outside 0 0 fill.value) ∷ []
 
--- the whole sheet of n columns and m steps
+-- the n columns, and the m steps of a model of n columns
+abbrev pub columns_part : Source → ℕ → List Entry
+columns_part p n = each n (column_part p.column)
+
+abbrev pub step_in : Source → ℕ → ℕ → List Entry
+step_in p = step_part p.column p.cost p.marks
+
+abbrev pub steps_part : Source → ℕ → ℕ → List Entry
+steps_part p n m = each m (step_in p n)
+
+-- what follows the header of a sheet of n columns and m steps
+abbrev pub body_part : Source → ℕ → ℕ → List Entry
+body_part p n m = columns_part p n ++ (steps_part p n m ++ fill_part (model_bits n m) p.fill)
+
+-- the whole sheet
 unfoldable pub fields_part : Source → ℕ → ℕ → List Entry
-fields_part p n m =
-    header_part p.form p.columns p.steps
-    ++ (each n (column_part p.column) ++ (each m (step_part p.column p.cost p.marks n) ++ fill_part (model_bits n m) p.fill))
+fields_part p n m = header_part p.form p.columns p.steps ++ body_part p n m
 
 -- the counts that the fields say, and the whole sheet by them
 abbrev pub columns_in : Source → ℕ

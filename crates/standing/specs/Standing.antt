@@ -1,8 +1,9 @@
 -- A state of the walk as code has it: a row of sets with one position each. What a step does to it, and the cut of a flaw. A wanted set that allows every
 -- position is coded as 0.
-use Rattle.std.specs.Prelude.{Bool, ◌&&◌, not, cond, List, ℕ, get_or}
+use Rattle.std.specs.Prelude.{Bool, ◌&&◌, not, cond, List, ℕ, get_or, Some, None}
+use Rattle.std.specs.Prelude as prelude
 use Rattle.std.proofs.Math.Option
-use Rattle.std.proofs.Math.Option.{Option}
+use Rattle.std.proofs.Math.Option.{Option, some, none}
 use Rattle.task.specs.declared.Column.{Column}
 use Rattle.task.specs.declared.Block.{Block}
 use Rattle.task.specs.Loops.{all, first, when, tab, over}
@@ -58,6 +59,11 @@ back_row needs lands sets s b = tab limits.columns (back_at needs lands sets s b
 -- the lowest column whose present position isn't wanted
 unfoldable pub off_at : List ℕ → List ℕ → ℕ → Option Column
 off_at wanted here j = when (is_off (get_or wanted j 0) (get_or here j 0)) (column j)
+
+-- an answer's meaning
+unfoldable pub found : prelude.Option Column → Option Column
+found None = none
+found (Some j) = some j
 
 unfoldable pub lowest_off : ℕ → List ℕ → List ℕ → Column
 lowest_off columns wanted here = Option.get_or (first columns (off_at wanted here)) (column 0)

@@ -1,3 +1,4 @@
 pub mod LoopLaws
+pub mod RangeLaws
 pub mod TaskLaws
 pub mod TableLaws

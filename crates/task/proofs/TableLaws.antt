@@ -1,24 +1,22 @@
 -- What stands in a model's tables is what its task says.
-use mathlib.Core.Path.{◌≡◌, refl, sym, ap, ◌∙◌}
-use mathlib.Core.Bool.{Bool, true, false}
+use mathlib.Core.Path.{◌≡◌, ap, ◌∙◌}
 use mathlib.Core.List.{List, [], ◌∷◌, ◌++◌}
-use mathlib.Core.Option.{Option, none, some}
-use Prim.Native.Nat.{ℕ, suc, ◌+◌, ◌*◌, ◌<◌}
+use mathlib.Core.Option.{Option}
+use Prim.Native.Nat.{ℕ, ◌+◌, ◌*◌, ◌<◌}
 use native.Mathlib.Omega.{arith}
-use native.Mathlib.Nat.{zero-add}
 use native.Mathlib.Numerals.{add-one}
 use lib.ListN.{length, get_or, take}
 use lib.Seq.{take-suc}
 use Rattle.task.specs.declared.Column.{Column}
 use Rattle.task.specs.declared.Step.{Step}
 use Rattle.task.specs.declared.Position.{Position}
-use Rattle.task.specs.declared.Mark.{Mark}
+use Rattle.std.specs.Prelude as maybe
 use Rattle.task.specs.declared.Model.{Model}
 use Rattle.task.specs.Loops.{all, tab}
 use Rattle.task.specs.Task.{Task, ColumnEntry, StepEntry, Change, no_column, no_step, no_change, State, column, position, step, at, column_count, step_count, size_of, start_at, goal_at, cost_of, change_at, need_at, effect_at, each_column, per_column, meets, changed, can_take, taken, is_goal, costs}
-use Rattle.task.specs.Tables.{mark, marked, place_of, column_entry, change_entry, step_entry, task_of}
+use Rattle.task.specs.Tables.{marked, place_of, column_entry, change_entry, step_entry, task_of}
 use Rattle.task.specs.Sizes.{limits}
-use Rattle.task.proofs.LoopLaws.{all-ext, all_more, all-fails, tab-at, tab-length, tab-ext}
+use Rattle.task.proofs.LoopLaws.{all-ext, tab-at, tab-length, tab-ext}
 
 module _ (m : Model) where
   pub columns-of : column_count (task_of m) ≡ m.columns
@@ -41,7 +39,7 @@ module _ (m : Model) where
   unfolding start_at column_entry no_column
   start_of j h = ap (λ (e : ColumnEntry). e.start) (column-of j h)
 
-  pub goal-of : (j : Column) → j.0 < m.columns → goal_at (task_of m) j ≡ marked (get_or m.goal j.0 (mark 0))
+  pub goal-of : (j : Column) → j.0 < m.columns → goal_at (task_of m) j ≡ marked (get_or m.goal j.0 maybe.None)
   unfolding goal_at column_entry no_column
   goal-of j h = ap (λ (e : ColumnEntry). e.goal) (column-of j h)
 
@@ -58,60 +56,33 @@ module _ (m : Model) where
   change-of s j hs hj =
       ap (λ (e : StepEntry). get_or e.changes j.0 no_change) (step_of s hs) ∙ tab-at m.columns (change_entry m s.0) no_change j.0 hj
 
-  pub need-of : (s : Step) (j : Column) → s.0 < m.steps → j.0 < m.columns → need_at (task_of m) s j ≡ marked (get_or m.need (place_of s.0 j.0) (mark 0))
+  pub need-of : (s : Step) (j : Column) → s.0 < m.steps → j.0 < m.columns → need_at (task_of m) s j ≡ marked (get_or m.need (place_of s.0 j.0) maybe.None)
   unfolding need_at change_entry
   need-of s j hs hj = ap (λ (c : Change). c.need) (change-of s j hs hj)
 
-  pub effect_of : (s : Step) (j : Column) → s.0 < m.steps → j.0 < m.columns → effect_at (task_of m) s j ≡ marked (get_or m.effect (place_of s.0 j.0) (mark 0))
+  pub effect_of : (s : Step) (j : Column) → s.0 < m.steps → j.0 < m.columns → effect_at (task_of m) s j ≡ marked (get_or m.effect (place_of s.0 j.0) maybe.None)
   unfolding effect_at change_entry
   effect_of s j hs hj = ap (λ (c : Change). c.effect) (change-of s j hs hj)
 
--- ---- marks
-pub marked-none : (k : Mark) → k.0 ≡ 0 → marked k ≡ none
-unfolding marked
-marked-none k h = rw h
-
-pub marked-some : (k : Mark) (p : ℕ) → k.0 ≡ suc p → marked k ≡ some (position p)
-unfolding marked
-marked-some k p h = rw h
-
 -- ---- the loops over a row of a table
 
--- the first n marks of a row that starts at a place are met by a state
-unfoldable pub row_met : List Mark → ℕ → State → ℕ → Bool
-row_met l place x n = all n (λ j. meets (marked (get_or l (place + j) (mark 0))) (at x (column j)))
-
--- the positions after the first n marks of a row
-unfoldable pub row_moved : List Mark → ℕ → State → ℕ → Position
-row_moved l place x j = changed (marked (get_or l (place + j) (mark 0))) (at x (column j))
+-- the positions after the first n places of a row
+unfoldable pub row_moved : List (maybe.Option Position) → ℕ → State → ℕ → Position
+row_moved l place x j = changed (marked (get_or l (place + j) maybe.None)) (at x (column j))
 
 module _ (m : Model) where
-  pub can-take-row : (s : Step) (x : State) → s.0 < m.steps → can_take (task_of m) s x ≡ row_met m.need (s.0 * limits.columns) x m.columns
-  unfolding can_take each_column row_met
-  can-take-row s x h =
-      rw (columns-of m) (all-ext m.columns _ _ (λ j k. ap (λ (o : Option Position). meets o (at x (column j))) (need-of m s (column j) h k)))
+  pub can-take-row : (s : Step) (x : State) → s.0 < m.steps → can_take (task_of m) s x ≡ all m.columns (λ j. meets (marked (get_or m.need (place_of s.0 j) maybe.None)) (at x (column j)))
+  unfolding can_take each_column
+  can-take-row s x h = rw (columns-of m) (all-ext m.columns _ _ (λ j k. ap (λ (o : Option Position). meets o (at x (column j))) (need-of m s (column j) h k)))
 
-  pub is-goal-row : (x : State) → is_goal (task_of m) x ≡ row_met m.goal 0 x m.columns
-  unfolding is_goal each_column row_met
-  is-goal-row x =
-      rw (columns-of m) (all-ext m.columns _ _ (λ j k. ap (λ (o : Option Position). meets o (at x (column j))) (goal-of m (column j) k ∙ ap (λ (i : ℕ). marked (get_or m.goal i (mark 0))) (sym (zero-add j)))))
+  pub is-goal-row : (x : State) → is_goal (task_of m) x ≡ all m.columns (λ j. meets (marked (get_or m.goal j maybe.None)) (at x (column j)))
+  unfolding is_goal each_column
+  is-goal-row x = rw (columns-of m) (all-ext m.columns _ _ (λ j k. ap (λ (o : Option Position). meets o (at x (column j))) (goal-of m (column j) k)))
 
   pub taken-row : (s : Step) (x : State) → s.0 < m.steps → taken (task_of m) s x ≡ tab m.columns (row_moved m.effect (s.0 * limits.columns) x)
   unfolding taken per_column row_moved
   taken-row s x h =
       rw (columns-of m) (tab-ext m.columns _ _ (λ j k. ap (λ (o : Option Position). changed o (at x (column j))) (effect_of m s (column j) h k)))
-
-pub row-none : (l : List Mark) (place : ℕ) (x : State) → row_met l place x 0 ≡ true
-unfolding row_met all
-row-none l place x = refl
-
-pub row_more : (l : List Mark) (place : ℕ) (x : State) (j : ℕ) → row_met l place x j ≡ true → meets (marked (get_or l (place + j) (mark 0))) (at x (column j)) ≡ true → row_met l place x (j + 1) ≡ true
-unfolding row_met
-row_more l place x j h k = all_more j _ h k
-
-pub row-fails : (l : List Mark) (place : ℕ) (x : State) (n j : ℕ) → j < n → meets (marked (get_or l (place + j) (mark 0))) (at x (column j)) ≡ false → row_met l place x n ≡ false
-unfolding row_met
-row-fails l place x n j h k = all-fails n _ j h k
 
 -- ---- the cost of a list of steps
 costs-append : (t : Task) (a b : List Step) → costs t (a ++ b) ≡ costs t a + costs t b

@@ -5,28 +5,25 @@ ghost use Rattle.std.specs.Prelude.{◌≡◌, ℕ, ◌≤◌, ◌<◌, get_or, 
 ghost use Rattle.task.specs.Loops.{over};
 ghost use Rattle.task.specs.Sizes.{limits, most_cost};
 ghost use Rattle.task.specs.Task.{step, meets, changed, can_take, taken, is_goal, costs};
-ghost use Rattle.task.specs.Tables.{marked, task_of, WithinLimits};
+ghost use Rattle.task.specs.Tables.{mark, marked, task_of, WithinLimits};
 
 // A column, by its number.
-#[derive(Clone, Copy)]
+#[derive(Clone, Copy, PartialEq, Eq)]
 pub struct Column(pub u8);
 
 // A position of a column, by its number.
-#[derive(Clone, Copy)]
+#[derive(Clone, Copy, PartialEq, Eq)]
 pub struct Position(pub u8);
 
 // A step, by its number.
-#[derive(Clone, Copy)]
+#[derive(Clone, Copy, PartialEq, Eq)]
 pub struct Step(pub u8);
 
 // A block, by its number.
-#[derive(Clone, Copy)]
+#[derive(Clone, Copy, PartialEq, Eq)]
 pub struct Block(pub u16);
 
-// A position or none, as on a sheet: 0 is none, anything else the position plus 1.
-#[derive(Clone, Copy)]
-pub struct Mark(pub u8);
-
+// The limits of 01 as one value.
 #[derive(Clone, Copy)]
 pub struct Limits {
     pub columns: usize,
@@ -38,23 +35,27 @@ pub struct Limits {
     pub no_way: u32,
 }
 
+// A model. Of each column: how many positions it has, where it starts, and its goal, if any. Of each step: what it costs, and its need and its effect in each
+// column, if any, with a place for every column that a model can have. Places past the counts are not read.
+// The tables stand side by side, since that is how the definitions make a model.
 #[derive(Clone, Copy)]
 pub struct Model {
     pub columns: usize,
     pub steps: usize,
     pub size: [u8; Model::COLUMNS],
     pub start: [Position; Model::COLUMNS],
-    pub goal: [Mark; Model::COLUMNS],
+    pub goal: [Option<Position>; Model::COLUMNS],
     pub cost: Costs,
-    pub need: [Mark; Model::STEPS * Model::COLUMNS],
-    pub effect: [Mark; Model::STEPS * Model::COLUMNS],
+    pub need: [Option<Position>; Model::STEPS * Model::COLUMNS],
+    pub effect: [Option<Position>; Model::STEPS * Model::COLUMNS],
 }
 
-// How many columns and steps a model has.
+// How many columns and steps a model has, within the limits, so that every place is there.
 #[derive(Clone, Copy)]
 pub struct Shape {
     pub columns: usize,
     pub steps: usize,
+    pub ghost within: { (columns ≤ limits.columns) × (steps ≤ limits.steps) },
 }
 
 // A state: the position of each column, and places past the model's columns.
@@ -70,7 +71,7 @@ pub type ColumnSets = [u32; Model::COLUMNS];
 pub type BlockSets = [u32; Model::BLOCKS * Model::COLUMNS];
 
 // The tables of a task, row by row: what each step needs, where each step lands, the goal, and the start as it stands.
-pub type Tables = [u32; (2 * Model::STEPS + 2) * Model::COLUMNS];
+pub type TaskSets = [u32; (2 * Model::STEPS + 2) * Model::COLUMNS];
 
 // What each step costs.
 pub type Costs = [u16; Model::STEPS];
@@ -78,8 +79,8 @@ pub type Costs = [u16; Model::STEPS];
 // The distance of each block, as one number: its cost in units of Model::TENTH, and its steps.
 pub type Distances = [u64; Model::BLOCKS];
 
-// The numbers of the steps that a walk took.
-pub type Path = [u8; Model::BLOCKS];
+// The steps that a walk took.
+pub type Path = [Step; Model::BLOCKS];
 
 impl Model {
     pub const COLUMNS: usize = 16;
@@ -124,96 +125,80 @@ impl Model {
     }
 
     // Whether the step can be taken in the state.
-    pub fn can_take(self, step: Step, state: State) -> bool
-        requires { WithinLimits self × (step.0 < self.steps) }
-        ensures { result ≡ can_take (task_of self) step state }
+    pub fn can_take(&self, step: Step, state: State) -> bool
+        requires { WithinLimits self.now × (step.0 < self.now.steps) }
+        ensures { result ≡ can_take (task_of self.now) step state }
     {
-        let columns = self.columns;
-        let place = step.0 as usize * Model::COLUMNS;
-        let mut j: usize = 0;
-        while j < columns {
-            if !met(self.need[place + j], state[j]) {
-                return false;
-            }
-            j += 1;
-        }
-        true
+        let place = usize::from(step.0) * Model::COLUMNS;
+        (0..self.columns).all(|j| met(self.need[place + j], state[j]))
     }
 
     // The state after the step. Places past the model's columns stay as they are.
-    pub fn take(self, step: Step, state: State) -> State
-        requires { WithinLimits self × (step.0 < self.steps) }
-        ensures { result ≡ over (taken (task_of self) step state) state }
+    pub fn take(&self, step: Step, state: State) -> State
+        requires { WithinLimits self.now × (step.0 < self.now.steps) }
+        ensures { result ≡ over (taken (task_of self.now) step state) state }
     {
-        let columns = self.columns;
-        let place = step.0 as usize * Model::COLUMNS;
+        let place = usize::from(step.0) * Model::COLUMNS;
         let mut after = state;
-        let mut j: usize = 0;
-        while j < columns {
+        for j in 0..self.columns {
             after[j] = moved(self.effect[place + j], state[j]);
-            j += 1;
         }
         after
     }
 
     // Whether the state is a goal state.
-    pub fn is_goal(self, state: State) -> bool
-        requires { WithinLimits self }
-        ensures { result ≡ is_goal (task_of self) state }
+    pub fn is_goal(&self, state: State) -> bool
+        requires { WithinLimits self.now }
+        ensures { result ≡ is_goal (task_of self.now) state }
     {
-        let columns = self.columns;
-        let mut j: usize = 0;
-        while j < columns {
-            if !met(self.goal[j], state[j]) {
-                return false;
-            }
-            j += 1;
-        }
-        true
+        (0..self.columns).all(|j| met(self.goal[j], state[j]))
     }
 
-    // The cost of the first `count` steps of a list.
-    pub fn cost_of(self, list: Steps, count: usize) -> u32
-        requires { WithinLimits self × ((count < limits.blocks) × ((i : ℕ) → i < count → (get_or list i (step 0)).0 < self.steps)) }
-        ensures { result ≡ costs (task_of self) (take count list) }
+    // The cost of the first `count` steps of a list, which is as long as any plan's, since there is no heap.
+    pub fn cost_of(&self, list: Steps, count: usize) -> u32
+        requires { WithinLimits self.now × ((count < limits.blocks) × ((i : ℕ) → i < count → (get_or list i (step 0)).0 < self.now.steps)) }
+        ensures { result ≡ costs (task_of self.now) (take count list) }
     {
         let mut sum: u32 = 0;
-        let mut i: usize = 0;
-        while i < count {
-            let s = list[i];
-            let at = s.0 as usize;
+        for i in 0..count {
+            let at = usize::from(list[i].0);
             sum += tenths(self.cost[at]);
-            i += 1;
         }
         sum
     }
 }
 
-// Whether a position meets a need or a goal, if there is one.
-pub fn met(mark: Mark, position: Position) -> bool
-    ensures { result ≡ meets (marked mark) position }
-{
-    let wanted = mark.0;
-    if wanted == 0 {
-        return true;
+impl Position {
+    // What a mark on a sheet says: 0 is none, anything else the position plus 1.
+    pub fn of_mark(number: u8) -> Option<Position>
+        ensures { result ≡ mark number }
+    {
+        match number {
+            0 => None,
+            _ => Some(Position(number - 1)),
+        }
     }
-    wanted - 1 == position.0
+}
+
+// Whether a position meets a need or a goal, if there is one.
+#[tactic(auto, unfolding(crate::specs::Task::meets, crate::specs::Tables::marked))]
+pub fn met(wanted: Option<Position>, position: Position) -> bool
+    ensures { result ≡ meets (marked wanted) position }
+{
+    wanted.is_none_or(|p| p == position)
 }
 
 // The position after an effect, if there is one.
-pub fn moved(mark: Mark, position: Position) -> Position
-    ensures { result ≡ changed (marked mark) position }
+#[tactic(auto, unfolding(crate::specs::Task::changed, crate::specs::Tables::marked))]
+pub fn moved(effect: Option<Position>, position: Position) -> Position
+    ensures { result ≡ changed (marked effect) position }
 {
-    let wanted = mark.0;
-    if wanted == 0 {
-        return position;
-    }
-    Position(wanted - 1)
+    effect.unwrap_or(position)
 }
 
 // A step's cost in a wider number, with the bound that a sum of costs needs.
 pub fn tenths(cost: u16) -> u32
     ensures { (result ≡ cost) × (result ≤ most_cost) }
 {
-    cost as u32
+    u32::from(cost)
 }

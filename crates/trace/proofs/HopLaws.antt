@@ -1,7 +1,7 @@
 -- The search for the next hop on numbers finds the one of the definitions.
 use mathlib.Core.Path.{◌≡◌, refl, sym, ◌∙◌, ap, ap₂}
 use mathlib.Core.Logic.{⊎_elim, ◌≢◌}
-use mathlib.Core.Bool.{Bool, true, false, ◌&&◌, not, cond, and-false}
+use mathlib.Core.Bool.{Bool, true, false, ◌&&◌, not, and-false}
 use mathlib.Core.List.{List}
 use mathlib.Core.Option.{Option, none, some}
 use Prim.Native.Nat.{ℕ, suc, ◌+◌, ◌-◌, ◌*◌, ◌<◌, ◌≤◌}
@@ -11,14 +11,13 @@ use lib.ListN.{length, get_or}
 use borrow.Author.Tests.{eq-eqb, ne_eqb, ltb-true, ltb-false, not-true}
 use Rattle.task.specs.declared.Step.{Step}
 use Rattle.task.specs.declared.Block.{Block}
-use Rattle.task.specs.declared.Shape.{Shape}
 use Rattle.task.specs.Loops.{first, when}
-use Rattle.task.specs.Task.{Task, Accepted, step, block, cost_of}
+use Rattle.task.specs.Task.{Task, step, block, cost_of}
 use Rattle.task.specs.Sizes.{limits, most_steps, most_cost, most_tenths, tenth}
-use Rattle.task.proofs.LoopLaws.{and_left, true-or-false, all-false, all-fails, first_some, when-some, first-empty, first-ext, first-here}
+use Rattle.task.proofs.LoopLaws.{and_left, true-or-false, all-false, all-fails, first_some, when-some, first-empty, first-ext, first-here, first_more}
 use Rattle.blocks.specs.Blocks.{Blocks}
 use Rattle.blocks.specs.Flat.{blocks_in}
-use Rattle.blocks.specs.Masks.{all_lie, passes, leads_by, Tables, TablesOf, lands_in, goals_in}
+use Rattle.blocks.specs.Masks.{all_lie, passes, leads_by, Tables, lands_in, goals_in}
 use Rattle.blocks.proofs.FlatLaws.{blocks-length}
 use Rattle.blocks.proofs.MaskLaws.{leads-by}
 use Rattle.blocks.proofs.PartLaws.{same_or_not}
@@ -28,8 +27,11 @@ use Rattle.settling.specs.Ways.{no_way}
 use Rattle.settling.specs.Coded.{coded, coded_at}
 use Rattle.settling.proofs.JoinLaws.{far-small}
 use Rattle.run.specs.Run.{keeps, next_hop}
-use Rattle.trace.specs.declared.Next.{Next}
-use Rattle.trace.specs.Hops.{keeps_in, fits_by, may_take, hop, next_in, next_of, next_by, next_is, hop_of, Holds, NextIs}
+use Rattle.trace.specs.declared.Hop.{Hop as CodeHop}
+use Rattle.masks.specs.declared.Tables.{Tables as CodeTables}
+use Rattle.cutting.specs.declared.Blocks.{Blocks as CodeBlocks}
+use Rattle.std.specs.Prelude as prelude
+use Rattle.trace.specs.Hops.{keeps_in, fits_by, may_take, hop, next_in, next_of, next_by, next_is, hop_of, Holds, NextIs, fits_on, Nexts}
 
 -- the two loops
 module _ (fits : ℕ → ℕ → Bool) where
@@ -116,20 +118,10 @@ module _ (columns : ℕ) (needs lands costs sets dist : List ℕ) (a s : ℕ) wh
       (λ (h : ltb own w ≡ false). let f : fits_in columns needs sets s a ≡ false = rw h at m in rw (no_lead b f) (and-false (eqb own (get_or dist b 0 + w))))
       (true-or-false (ltb own w))
 
-  module _ (count last : ℕ) (is : last ≡ cond (may_take columns needs costs sets dist a s) count 0) where
-    pub tried : (b : ℕ) → b < last → (may_take columns needs costs sets dist a s ≡ true) × (b < count)
-    tried b h =
-        ⊎_elim (λ (m : may_take columns needs costs sets dist a s ≡ true). let e : last ≡ count = rw m at is in (m, omega arith))
-        (λ (m : may_take columns needs costs sets dist a s ≡ false). let e : last ≡ 0 = rw m at is in absurd (omega arith))
-        (true-or-false (may_take columns needs costs sets dist a s))
-
-    -- no block is found for the step
-    pub none_found : first last (next_in (fits_by columns needs lands costs sets dist a) s) ≡ none → next_of count (fits_by columns needs lands costs sets dist a) s ≡ none
-    unfolding next_of next_in
-    none_found h =
-        ⊎_elim (λ (m : may_take columns needs costs sets dist a s ≡ true). let e : last ≡ count = rw m at is in rw e at h)
-        (λ (m : may_take columns needs costs sets dist a s ≡ false). first-empty count _ (λ b k. rw (no-fit b m)))
-        (true-or-false (may_take columns needs costs sets dist a s))
+  -- no block is found for a step that is passed over
+  pub none-passed : (count : ℕ) → may_take columns needs costs sets dist a s ≡ false → next_of count (fits_by columns needs lands costs sets dist a) s ≡ none
+  unfolding next_of next_in
+  none-passed count m = first-empty count _ (λ b k. rw (no-fit b m))
 
 -- ---- the search on the tables is the one of the definitions
 module _ (t : Task) (columns steps count : ℕ) (needs lands goals costs sets dist : List ℕ) (tables : Tables t columns steps needs lands goals costs)
@@ -173,11 +165,46 @@ module _ (t : Task) (columns steps count : ℕ) (needs lands goals costs sets di
       rw (tables.long, long)
       (first-ext steps _ _ (λ s hs. first-ext count _ _ (λ b hb. ap (λ (x : Bool). when x (hop s b)) (fits-same a d ha e s b hs hb))))
 
--- what the search answers, of the tables and of any task whose tables they are
-pub answers : (f : Shape) (count : ℕ) (tables costs sets dist : List ℕ) (a : Block) (r : Next) → count ≤ limits.blocks → a.0 < count
-    → hop_of r ≡ next_by f.steps count (fits_by f.columns tables (lands_in tables) costs sets dist a.0)
-    → (hop_of r ≡ next_is f count tables costs sets dist a.0)
-    × ((t : Task) → Accepted t → TablesOf t f tables costs → Holds (distances t (blocks_in f.columns count sets)) count dist → NextIs t (blocks_in f.columns count sets) a r)
+-- ---- the search as code makes it, turn by turn
+module _ (ts : CodeTables) (bs : CodeBlocks) (dist : List ℕ) (a s : ℕ) where
+  abbrev may : Bool
+  may = may_take ts.shape.columns ts.rows ts.costs bs.sets dist a s
+
+  abbrev fit : ℕ → Bool
+  fit b = fits_on ts bs dist a s b
+
+  -- step s is passed over
+  pub passed : first s (next_of bs.count (fits_on ts bs dist a)) ≡ none → may ≡ false → first (s + 1) (next_of bs.count (fits_on ts bs dist a)) ≡ none
+  passed before m = first_more _ s before (none-passed ts.shape.columns ts.rows (lands_in ts.rows) ts.costs bs.sets dist a s bs.count m)
+
+  -- no block fits it
+  pub none_fits : first s (next_of bs.count (fits_on ts bs dist a)) ≡ none → {b : ℕ} → b ≡ bs.count → first b (next_in (fits_on ts bs dist a) s) ≡ none
+      → first (s + 1) (next_of bs.count (fits_on ts bs dist a)) ≡ none
+  unfolding next_of
+  none_fits before e none_yet = first_more _ s before (rw e at none_yet)
+
+  module _ (b rest : ℕ) {r : Bool} (m : may ≡ true) (left : rest ≡ get_or dist a 0 - (get_or ts.costs s 0 * tenth + 1))
+      (is : r ≡ (eqb (get_or dist b 0) rest && leads_by ts.shape.columns ts.rows (lands_in ts.rows) bs.sets s a b)) where
+    same : r ≡ fit b
+    same = is ∙ fits-rest ts.shape.columns ts.rows (lands_in ts.rows) ts.costs bs.sets dist a s b rest m left
+
+    -- block b does not fit it
+    pub unfit : first b (next_in (fits_on ts bs dist a) s) ≡ none → r ≡ false → first (b + 1) (next_in (fits_on ts bs dist a) s) ≡ none
+    unfit before n = first_more _ b before (next-no (fits_on ts bs dist a) s b r same n)
+
+    -- it does
+    pub fit_here : s < ts.shape.steps → b < bs.count → first s (next_of bs.count (fits_on ts bs dist a)) ≡ none → first b (next_in (fits_on ts bs dist a) s) ≡ none
+        → r ≡ true → next_is ts bs dist a ≡ some (hop s b)
+    fit_here hs hb steps blocks y = found (fits_on ts bs dist a) ts.shape.steps bs.count s b hs hb steps blocks (next-yes (fits_on ts bs dist a) s b r same y)
+
+-- no step has a hop
+pub none-at-all : (ts : CodeTables) (bs : CodeBlocks) (dist : List ℕ) (a : ℕ) {s : ℕ} → s ≡ ts.shape.steps → first s (next_of bs.count (fits_on ts bs dist a)) ≡ none → next_is ts bs dist a ≡ none
+unfolding next_by
+none-at-all ts bs dist a e h = rw e at h
+
+-- what the search answers is right of any task whose tables they are
+pub answers : (ts : CodeTables) (bs : CodeBlocks) (dist : List ℕ) (a : Block) (r : prelude.Option CodeHop) → a.0 < bs.count
+    → hop_of r ≡ next_is ts bs dist a.0 → (t : Task) → Nexts t ts bs dist a r
 unfolding NextIs
-answers f count tables costs sets dist a r few h e =
-    (e, (λ t v own holds d q. e ∙ next-is t f.columns f.steps count tables (lands_in tables) (goals_in tables) costs sets dist own v.tenths few holds a d h q))
+answers ts bs dist a r h e t v own holds d q =
+    e ∙ next-is t ts.shape.columns ts.shape.steps bs.count ts.rows (lands_in ts.rows) (goals_in ts.rows) ts.costs bs.sets dist own v.tenths bs.counted holds a d h q

@@ -1,19 +1,22 @@
 -- The search for the next hop as code does it, on the numbers of the distances.
-use Rattle.std.specs.Prelude.{Bool, ◌&&◌, not, List, ◌≡◌, ℕ, ◌+◌, ◌*◌, ◌<◌, eqb, ltb, get_or}
+use Rattle.std.specs.Prelude.{Bool, ◌&&◌, not, List, ◌≡◌, ℕ, ◌+◌, ◌*◌, ◌<◌, eqb, ltb, get_or, Some, None}
+use Rattle.std.specs.Prelude as prelude
 use Rattle.std.proofs.Math.Option.{Option, none, some}
 use Rattle.task.specs.Loops.{first, when}
 use Rattle.task.specs.declared.Block.{Block}
-use Rattle.task.specs.declared.Shape.{Shape}
-use Rattle.task.specs.Task.{Task, step, block}
+use Rattle.task.specs.Task.{Task, Accepted, step, block}
 use Rattle.task.specs.Sizes.{tenth}
 use Rattle.blocks.specs.Blocks.{Blocks}
+use Rattle.blocks.specs.Flat.{blocks_in}
 use Rattle.blocks.specs.Masks.{lands_in, leads_by}
+use Rattle.masks.specs.Tables.{TablesOf}
+use Rattle.masks.specs.declared.Tables.{Tables as CodeTables}
+use Rattle.cutting.specs.declared.Blocks.{Blocks as CodeBlocks}
 use Rattle.distances.specs.Distances.{Distance, Hop, Table, far_of, distances}
 use Rattle.arcs.specs.Arcs.{fits_in}
 use Rattle.settling.specs.Coded.{coded_at}
 use Rattle.run.specs.Run.{next_hop}
-use Rattle.trace.specs.declared.Next.{Next}
-use Rattle.trace.specs.declared.Next.TheVariants.{To, Nothing}
+use Rattle.trace.specs.declared.Hop.{Hop as CodeHop}
 
 -- cost and step count, plus this step, give the block's own
 unfoldable pub keeps_in : ℕ → ℕ → ℕ → Bool
@@ -41,19 +44,31 @@ next_of count fits s = first count (next_in fits s)
 unfoldable pub next_by : ℕ → ℕ → (ℕ → ℕ → Bool) → Option Hop
 next_by steps count fits = first steps (next_of count fits)
 
--- the same on the tables in one array
-abbrev pub next_is : Shape → ℕ → (tables costs sets dist : List ℕ) → ℕ → Option Hop
-next_is f count tables costs sets dist a = next_by f.steps count (fits_by f.columns tables (lands_in tables) costs sets dist a)
+-- the same on code's tables and blocks
+abbrev pub fits_on : CodeTables → CodeBlocks → List ℕ → ℕ → ℕ → ℕ → Bool
+fits_on ts bs dist a = fits_by ts.shape.columns ts.rows (lands_in ts.rows) ts.costs bs.sets dist a
+
+abbrev pub next_is : CodeTables → CodeBlocks → List ℕ → ℕ → Option Hop
+next_is ts bs dist a = next_by ts.shape.steps bs.count (fits_on ts bs dist a)
 
 -- an answer's meaning
-unfoldable pub hop_of : Next → Option Hop
-hop_of (To s b) = some (record { step = s; to = b })
-hop_of Nothing = none
+unfoldable pub hop_of : prelude.Option CodeHop → Option Hop
+hop_of None = none
+hop_of (Some h) = some (record { step = h.step; to = h.block })
 
 -- a table of numbers that holds the distances
 unfoldable pub Holds : Table → ℕ → List ℕ → Type 0
 Holds l count dist = (a : ℕ) → a < count → get_or dist a 0 ≡ coded_at l a
 
 -- an answer is the next hop of a block that has a distance
-unfoldable pub NextIs : Task → Blocks → Block → Next → Type 0
+unfoldable pub NextIs : Task → Blocks → Block → prelude.Option CodeHop → Type 0
 NextIs t bs a r = (d : Distance) → far_of (distances t bs) a ≡ some d → hop_of r ≡ next_hop t bs (distances t bs) a d
+
+-- the blocks that code holds
+abbrev pub blocks_held : ℕ → CodeBlocks → Blocks
+blocks_held columns bs = blocks_in columns bs.count bs.sets
+
+-- the same of any task whose tables these are, where the numbers hold the distances of the blocks
+abbrev pub Nexts : Task → CodeTables → CodeBlocks → List ℕ → Block → prelude.Option CodeHop → Type 0
+Nexts t ts bs dist a r =
+    Accepted t → TablesOf t ts → Holds (distances t (blocks_held ts.shape.columns bs)) bs.count dist → NextIs t (blocks_held ts.shape.columns bs) a r

@@ -1,141 +1,154 @@
 // The model that a sheet holds, in the task's own tables.
 #![tactic(auto)]
 
-ghost use Rattle.std.specs.Prelude.{◌≡◌, ◌+◌, ◌*◌, ◌≤◌, ◌<◌};
-ghost use Rattle.task.specs.Sizes.{limits, step_places};
+ghost use Rattle.std.specs.Prelude.{◌≡◌, ℕ, ◌*◌, ◌/◌, ◌%◌, ◌≤◌, ◌<◌, length, Option, None};
+ghost use Rattle.task.specs.Sizes.{limits};
 ghost use Rattle.task.specs.Loops.{tab, over};
 ghost use Rattle.task.specs.Tables.{mark};
-ghost use Rattle.task.specs.Task.{position};
+ghost use Rattle.fields.specs.Bits.{field_at, farthest_bit};
+ghost use Rattle.fields.specs.Refusals.{told};
 ghost use Rattle.sheets.specs.ModelSheet.{columns_of, steps_of, of_sheet, judge_sheet};
-ghost use Rattle.sheets.specs.Holding.{unused, mark_place, mark_table, model_of, no_model};
-ghost use Rattle.unpack.specs.Unpacking.{size_on, start_on, goal_on, tenths_on, mark_on, unpacked};
+ghost use Rattle.sheets.specs.Holding.{mark_place, model_of};
+ghost use Rattle.unpack.specs.Unpacking.{Empty, size_on, start_on, goal_on, tenths_on, unpacked};
 
 use fields::field::field;
+use fields::refusal::Refusal;
+use sheets::source::SheetFields;
 use sheets::{column_bits, judge_sheet, model_bits};
-use task::{Mark, Model, Position};
+use task::{Model, Position, Shape};
 
-// A refusal with the model of nothing, or 0 and the model.
-#[derive(Clone, Copy)]
-pub struct Read {
-    pub code: u8,
-    pub model: Model,
-}
-
-fn sizes(s: &[u8], n: usize) -> [u8; Model::COLUMNS]
-    requires { n ≤ limits.columns }
-    ensures { result ≡ over (tab n (size_on s.now)) (unused limits.columns 0) }
+// Reads a table's first places, each by its number. The others stay as they are.
+fn fill<T: Copy, F: Fn(usize) -> T>(count: usize, read: F, table: &mut [T])
+    requires room { count ≤ length table.old }
+    requires can { (i : ℕ) → i < count → F.pre read i }
+    ensures { (f : ℕ → T) → ((i : ℕ) (v : T) → i < count → F.post read i v → v ≡ f i) → table.new ≡ over (tab count f) table.old }
 {
-    let mut t = [0u8; Model::COLUMNS];
-    let mut i: usize = 0;
-    while i < n {
-        t[i] = field(s, column_bits(i), 6) as u8;
-        i += 1;
+    for i in 0..count {
+        table[i] = read(i);
     }
-    t
 }
 
-fn starts(s: &[u8], n: usize) -> [Position; Model::COLUMNS]
-    requires { n ≤ limits.columns }
-    ensures { result ≡ over (tab n (start_on s.now)) (unused limits.columns (position 0)) }
+// The same of marks: each step has a place for every column that a model can have, with no mark past the model's own columns.
+fn fill_marks<F: Fn(usize, usize) -> Option<Position>>(
+    shape: Shape,
+    read: F,
+    marks: &mut [Option<Position>],
+)
+    requires room { shape.steps * limits.columns ≤ length marks.old }
+    requires can { (j i : ℕ) → j < shape.steps → i < shape.columns → F.pre read j i }
+    ensures { (f : ℕ → ℕ → ℕ)
+        → ((j i : ℕ) (v : Option Position) → j < shape.steps → i < shape.columns → F.post read j i v → v ≡ mark (f j i))
+        → marks.new ≡ over (tab (shape.steps * limits.columns) (mark_place f shape.columns)) marks.old }
 {
-    let mut t = [Position(0); Model::COLUMNS];
-    let mut i: usize = 0;
-    while i < n {
-        t[i] = Position(field(s, column_bits(i) + 6, 5) as u8);
-        i += 1;
-    }
-    t
+    fill(
+        shape.steps * Model::COLUMNS,
+        |k|
+            requires { k % limits.columns < shape.columns → F.pre read (k / limits.columns) (k % limits.columns) }
+            ensures mark { k % limits.columns < shape.columns → F.post read (k / limits.columns) (k % limits.columns) result }
+            ensures none { shape.columns ≤ k % limits.columns → result ≡ None }
+        {
+            if k % Model::COLUMNS < shape.columns {
+                read(k / Model::COLUMNS, k % Model::COLUMNS)
+            } else {
+                None
+            }
+        },
+        marks,
+    );
 }
 
-fn goals(s: &[u8], n: usize) -> [Mark; Model::COLUMNS]
-    requires { n ≤ limits.columns }
-    ensures { result ≡ over (tab n (goal_on s.now)) (unused limits.columns (mark 0)) }
+// Here and below a cast: a field of so many bits fits, and std has no From for it.
+fn size(s: &[u8], i: usize) -> u8
+    requires { i < limits.columns }
+    ensures { result ≡ size_on s.now i }
 {
-    let mut t = [Mark(0); Model::COLUMNS];
-    let mut i: usize = 0;
-    while i < n {
-        t[i] = Mark(field(s, column_bits(i) + 6 + 5, 6) as u8);
-        i += 1;
-    }
-    t
+    field(s, column_bits(i), 6) as u8
 }
 
-fn costs(s: &[u8], n: usize, m: usize) -> [u16; Model::STEPS]
-    requires { (n ≤ limits.columns) × (m ≤ limits.steps) }
-    ensures { result ≡ over (tab m (tenths_on s.now n)) (unused limits.steps 0) }
+fn start(s: &[u8], i: usize) -> Position
+    requires { i < limits.columns }
+    ensures { result ≡ start_on s.now i }
 {
-    let mut t = [0u16; Model::STEPS];
-    let mut j: usize = 0;
-    while j < m {
-        t[j] = field(s, model_bits(n, j), 16) as u16;
-        j += 1;
-    }
-    t
+    Position(field(s, column_bits(i) + 6, 5) as u8)
 }
 
-// The mark at a place of a table of marks: `skip` is 0 for needs and 6 for effects.
-fn mark_at(s: &[u8], n: usize, skip: usize, k: usize) -> Mark
-    requires { (n ≤ limits.columns) × (skip ≤ 6) × (k < step_places) }
-    ensures { result ≡ mark_place (mark_on s.now n skip) n k }
+fn goal(s: &[u8], i: usize) -> Option<Position>
+    requires { i < limits.columns }
+    ensures { result ≡ goal_on s.now i }
 {
-    let i = k % Model::COLUMNS;
-    let j = k / Model::COLUMNS;
-    if i < n {
-        return Mark(field(s, model_bits(n, j) + 16 + i * 12 + skip, 6) as u8);
-    }
-    Mark(0)
+    mark(s, column_bits(i) + 6 + 5)
 }
 
-fn marks(s: &[u8], n: usize, m: usize, skip: usize) -> [Mark; Model::STEPS * Model::COLUMNS]
-    requires { (n ≤ limits.columns) × (m ≤ limits.steps) × (skip ≤ 6) }
-    ensures { result ≡ mark_table (mark_on s.now n skip) n m }
+fn cost(sheet: &SheetFields, j: usize) -> u16
+    requires { j < limits.steps }
+    ensures { result ≡ tenths_on sheet.now.bytes.now sheet.now.shape.columns j }
 {
-    let end = m * Model::COLUMNS;
-    let mut t = [Mark(0); Model::STEPS * Model::COLUMNS];
-    let mut k: usize = 0;
-    while k < end {
-        t[k] = mark_at(s, n, skip, k);
-        k += 1;
-    }
-    t
+    field(sheet.bytes, model_bits(sheet.shape.columns, j), 16) as u16
 }
 
-fn no_model() -> Model
-    ensures { result ≡ no_model }
+// The mark whose 6 bits begin at a position.
+fn mark(s: &[u8], at: usize) -> Option<Position>
+    requires { at ≤ farthest_bit }
+    ensures { result ≡ mark (field_at s.now at 6) }
+{
+    Position::of_mark(field(s, at, 6) as u8)
+}
+
+// No model yet, for one to be read into.
+pub fn empty() -> Model
+    ensures { Empty result }
 {
     Model {
         columns: 0,
         steps: 0,
-        size: [0u8; Model::COLUMNS],
+        size: [0; Model::COLUMNS],
         start: [Position(0); Model::COLUMNS],
-        goal: [Mark(0); Model::COLUMNS],
-        cost: [0u16; Model::STEPS],
-        need: [Mark(0); Model::STEPS * Model::COLUMNS],
-        effect: [Mark(0); Model::STEPS * Model::COLUMNS],
+        goal: [None; Model::COLUMNS],
+        cost: [0; Model::STEPS],
+        need: [None; Model::STEPS * Model::COLUMNS],
+        effect: [None; Model::STEPS * Model::COLUMNS],
     }
 }
 
-// The model of a sheet of n columns and m steps.
-fn tables(s: &[u8], n: usize, m: usize) -> Model
-    requires { (n ≤ limits.columns) × (m ≤ limits.steps) × (n ≡ columns_of s.now) × (m ≡ steps_of s.now) }
-    ensures { result ≡ model_of (of_sheet s.now) }
+// The model of a sheet with its own counts, in its caller's place: it is too large to stand on the stack twice.
+fn read_model(sheet: &SheetFields, model: &mut Model)
+    requires counts { (sheet.now.shape.columns ≡ columns_of sheet.now.bytes.now) × (sheet.now.shape.steps ≡ steps_of sheet.now.bytes.now) }
+    requires empty { Empty model.old }
+    ensures { model.new ≡ model_of (of_sheet sheet.now.bytes.now) }
 {
-    let size = sizes(s, n);
-    let start = starts(s, n);
-    let goal = goals(s, n);
-    let cost = costs(s, n, m);
-    let need = marks(s, n, m, 0);
-    let effect = marks(s, n, m, 6);
-    Model {
-        columns: n,
-        steps: m,
-        size: size,
-        start: start,
-        goal: goal,
-        cost: cost,
-        need: need,
-        effect: effect,
-    }
+    let s = sheet.bytes;
+    let Shape { columns, steps } = sheet.shape;
+    model.columns = columns;
+    model.steps = steps;
+    fill(columns, |i| size(s, i), &mut model.size);
+    fill(columns, |i| start(s, i), &mut model.start);
+    fill(columns, |i| goal(s, i), &mut model.goal);
+    fill(steps, |j| cost(sheet, j), &mut model.cost);
+    fill_marks(
+        sheet.shape,
+        |j, i| mark(s, sheet.marks_at(j, i)),
+        &mut model.need,
+    );
+    fill_marks(
+        sheet.shape,
+        |j, i| mark(s, sheet.marks_at(j, i) + 6),
+        &mut model.effect,
+    );
+}
+
+// Reads the model of an accepted sheet.
+pub fn read_accepted(sheet: &[u8], model: &mut Model)
+    requires accepted { judge_sheet sheet.now ≡ 0 }
+    requires empty { Empty model.old }
+    ensures { model.new ≡ model_of (of_sheet sheet.now) }
+{
+    let columns = field(sheet, 4, 5) as usize;
+    let steps = field(sheet, 9, 8) as usize;
+    let fields = SheetFields {
+        bytes: sheet,
+        shape: Shape { columns, steps },
+    };
+    read_model(&fields, model);
 }
 
 // The model of an accepted sheet.
@@ -143,26 +156,23 @@ pub fn unpack_accepted(sheet: &[u8]) -> Model
     requires { judge_sheet sheet.now ≡ 0 }
     ensures { result ≡ model_of (of_sheet sheet.now) }
 {
-    let n = field(sheet, 4, 5) as usize;
-    let m = field(sheet, 9, 8) as usize;
-    tables(sheet, n, m)
+    let mut model = empty();
+    read_accepted(sheet, &mut model);
+    model
 }
 
-// Reads a model sheet: its refusal, or its model.
-pub fn unpack_model(sheet: &[u8]) -> Read
-    ensures { result ≡ unpacked sheet.now }
+// Reads a model sheet: its model, or its refusal.
+pub fn unpack_model(sheet: &[u8]) -> Result<Model, Refusal>
+    ensures { told result ≡ unpacked sheet.now }
 {
-    let code = judge_sheet(sheet);
-    if code != 0 {
-        let none = no_model();
-        return Read {
-            code: code,
-            model: none,
-        };
-    }
-    let model = unpack_accepted(sheet);
-    Read {
-        code: 0,
-        model: model,
-    }
+    let shape = judge_sheet(sheet)?;
+    let mut model = empty();
+    read_model(
+        &SheetFields {
+            bytes: sheet,
+            shape,
+        },
+        &mut model,
+    );
+    Ok(model)
 }

@@ -1,3 +1,2 @@
 pub mod ValueLaws
-pub mod SignedLaws
-pub mod UsableLaws
+pub mod PlacesLaws

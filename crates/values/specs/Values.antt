@@ -2,12 +2,7 @@
 use Rattle.std.specs.Prelude.{ℕ, suc, ◌+◌, ◌-◌, ◌*◌, ◌/◌, ◌%◌, ◌^◌, List, [], ◌∷◌, map, ℤ, pos, negsuc, length, get_or}
 use Rattle.fields.specs.Bits.{byte_values}
 use Rattle.task.specs.Loops.{tab}
-use Rattle.task.specs.Sizes.{limits}
 use Rattle.fields.specs.Judging.{each}
-
--- no list has as many values: a cut and a row are three, and there are fewer of them than blocks
-abbrev pub too_many : ℕ
-too_many = limits.blocks * 4
 
 -- a value is four bytes, most significant first
 unfoldable pub value_bytes : ℕ → List ℕ

@@ -1,99 +1,72 @@
 // Values in lists of bytes, as the historian has them: four bytes each, most significant first.
 #![tactic(auto)]
 
-ghost use Rattle.std.specs.Prelude.{◌≡◌, map, ◌+◌, ◌*◌, ◌≤◌, ◌<◌, length};
+ghost use Rattle.std.specs.Prelude.{◌≡◌, ℕ, map, ◌*◌, ◌+◌, ◌≤◌, length};
 ghost use Rattle.task.specs.Loops.{tab, over};
 ghost use Rattle.fields.specs.Judging.{each};
 ghost use Rattle.fields.specs.Places.{puts};
-ghost use Rattle.values.specs.Usable.{usable};
-ghost use Rattle.values.specs.Values.{too_many, value_bytes, bytes_at, value_on, twos};
+ghost use Rattle.values.specs.Values.{value_bytes, bytes_at, value_on, twos};
 
-// How many numbers one, two, three and four bytes have.
-const ONE_BYTE: u32 = 256;
+use task::Model;
 
-const TWO_BYTES: u32 = 65536;
+// A list of three values for each place that a run can use, for its cuts or for its rows.
+pub type PlaceValues = [u32; (Model::BLOCKS - 1) * 3];
 
-const THREE_BYTES: u32 = 16777216;
+// A number that is put as a value. Its worth is the number from 0 on whose four bytes stand for it.
+pub trait Value: Copy {
+    ghost worth: { Self → ℕ };
 
-const FOUR_BYTES: i64 = 4294967296;
-
-// Puts value i of a list: four bytes, most significant first.
-fn put_value(v: u32, i: usize, bytes: &mut [u8])
-    requires { (i < too_many) × (i * 4 + 4 ≤ length bytes.old) }
-    ensures { bytes.new ≡ puts (i * 4) (value_bytes v) bytes.old }
-{
-    let at = i * 4;
-    bytes[at] = (v / THREE_BYTES % ONE_BYTE) as u8;
-    bytes[at + 1] = (v / TWO_BYTES % ONE_BYTE) as u8;
-    bytes[at + 2] = (v / ONE_BYTE % ONE_BYTE) as u8;
-    bytes[at + 3] = (v % ONE_BYTE) as u8;
+    fn bytes(self) -> [u8; 4]
+        ensures { result ≡ value_bytes (worth self) };
 }
 
-// Puts the first n values of a list over the front of the bytes.
-pub fn put_values(values: &[u32], n: usize, bytes: &mut [u8])
-    requires { (n < too_many) × (n ≤ length values.now) × (n * 4 ≤ length bytes.old) }
-    ensures { bytes.new ≡ puts 0 (each n (bytes_at values.now)) bytes.old }
-{
-    let mut i: usize = 0;
-    while i < n {
-        put_value(values[i], i, bytes);
-        i += 1;
+impl Value for u32 {
+    ghost worth = { λ v. v };
+
+    #[tactic(auto, unfolding(crate::specs::Values::value_bytes))]
+    fn bytes(self) -> [u8; 4] {
+        u32::to_be_bytes(self)
     }
 }
 
-// A signed value in two's complement. A cast of a number below 0 is not defined, so it is made one from 0 on first.
-fn unsigned(v: i32) -> u32
-    ensures { result ≡ twos v }
-{
-    let wide = v as i64;
-    if wide < 0 {
-        return (wide + FOUR_BYTES) as u32;
+// A signed value is in two's complement.
+impl Value for i32 {
+    ghost worth = { twos };
+
+    #[tactic(auto, using(crate::proofs::ValueLaws::twos_bits), unfolding(crate::specs::Values::value_bytes))]
+    fn bytes(self) -> [u8; 4] {
+        i32::to_be_bytes(self)
     }
-    wide as u32
 }
 
-// The same of signed values.
-pub fn put_signed(values: &[i32], n: usize, bytes: &mut [u8])
-    requires { (n < too_many) × (n ≤ length values.now) × (n * 4 ≤ length bytes.old) }
-    ensures { bytes.new ≡ puts 0 (each n (bytes_at (map twos values.now))) bytes.old }
+// Puts the first n values of a list over the front of the bytes. The list is lent whole, since a part of some hundred places would be worked out in a caller's
+// proof; the same below.
+pub fn put_values<V: Value>(values: &[V], n: usize, bytes: &mut [u8])
+    requires room { n * 4 ≤ length bytes.old }
+    requires given { n ≤ length values.now }
+    ensures { bytes.new ≡ puts 0 (each n (bytes_at (map V.worth values.now))) bytes.old }
 {
-    let mut j: usize = 0;
-    while j < n {
-        put_value(unsigned(values[j]), j, bytes);
-        j += 1;
+    for (i, v) in values[..n].iter().enumerate() {
+        bytes[i * 4..i * 4 + 4].copy_from_slice(&v.bytes());
     }
 }
 
 // Value k of a list of bytes.
 fn get_value(bytes: &[u8], k: usize) -> u32
-    requires { (k < too_many) × (k * 4 + 4 ≤ length bytes.now) }
+    requires { k * 4 + 4 ≤ length bytes.now }
     ensures { result ≡ value_on bytes.now k }
 {
     let at = k * 4;
-    bytes[at] as u32 * THREE_BYTES
-        + bytes[at + 1] as u32 * TWO_BYTES
-        + bytes[at + 2] as u32 * ONE_BYTE
-        + bytes[at + 3] as u32
+    u32::from_be_bytes([bytes[at], bytes[at + 1], bytes[at + 2], bytes[at + 3]])
 }
 
 // Gets the first n values of the bytes into the front of a list.
 pub fn get_values(bytes: &[u8], n: usize, values: &mut [u32])
-    requires { (n < too_many) × (n * 4 ≤ length bytes.now) × (n ≤ length values.old) }
+    requires given { n * 4 ≤ length bytes.now }
+    requires room { n ≤ length values.old }
     ensures { values.new ≡ over (tab n (value_on bytes.now)) values.old }
 {
-    let mut k: usize = 0;
-    while k < n {
-        values[k] = get_value(bytes, k);
-        k += 1;
+    for (k, value) in values[..n].iter_mut().enumerate() {
+        *value = get_value(bytes, k);
     }
-}
-
-// How many of the places lent can matter where no more than most can be used.
-pub fn usable_places(most: usize, places: usize) -> usize
-    ensures { result ≡ usable most places }
-{
-    if most < places {
-        return most;
-    }
-    places
 }

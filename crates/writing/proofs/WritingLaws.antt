@@ -1,64 +1,43 @@
 -- Writing a sheet, field after field, and the two ways that it ends.
-use Prim.Native.Nat.{ℕ, zero, suc, ◌*◌, ◌^◌, ◌≤◌, ◌<◌}
-use native.Mathlib.Nat.{mul-le-mul}
+use Prim.Native.Nat.{ℕ, ◌^◌, ◌≤◌, ◌<◌}
 use native.Mathlib.Omega.{arith}
 use mathlib.Core.Path.{◌≡◌, refl, sym, ap, ap₂, ◌∙◌}
+use Rattle.std.proofs.Common.{Some}
 use mathlib.Core.List.{List, [], ◌∷◌, ◌++◌}
 use lib.ListN.{length}
 use borrow.Author.Tests.{eq-eqb, lt-ltb, le-ltb}
-use Rattle.task.specs.Sizes.{limits}
 use Rattle.task.specs.Loops.{over}
 use Rattle.fields.specs.Bits.{put_field}
-use Rattle.fields.specs.Judging.{given, in_table, outside, ◌then◌, refusal, judged, each}
+use Rattle.fields.specs.Judging.{given, in_table, refusal, judged, each}
 use Rattle.fields.specs.Packing.{packed}
-use Rattle.fields.proofs.JudgingLaws.{good, inside, went, judged-append, last-stopped, last-went, applies, passes, no-checks, refused-is}
+use Rattle.fields.proofs.JudgingLaws.{last-stopped, last-went, applies, passes, no-checks, refused-is}
 use Rattle.fields.proofs.PutLaws.{Bytes}
 use Rattle.fields.proofs.PackingLaws.{packed-append, packed-over}
-use Rattle.sheets.specs.ModelSheet.{Source, columns_in, steps_in, header_part, column_part, step_part, fill_part, fields_part, entries, column_bits, model_bits, model_bytes, fill_bits}
+use Rattle.sheets.specs.ModelSheet.{Source, columns_in, steps_in, header_part, column_part, step_part, fill_part, body_part, fields_part, entries, column_bits, model_bits, model_bytes, fill_bits}
 use Rattle.sheets.specs.LentTables.{column_in, marks_in, of_tables, too_few, write_checks}
-use Rattle.sheets.proofs.SheetLaws.{H, C, S, F, part-header, part-columns, parts-fine, header-fine}
+use Rattle.sheets.proofs.SheetLaws.{H, C, S, F, part-header, part-body}
 use Rattle.sheets.proofs.HoldLaws.{at-columns, at-steps, at_fill, sheet-bits, whole-bytes}
 use Rattle.sheets.proofs.RoundLaws.{fits}
-use Rattle.writing.specs.declared.write.SheetWritten.TheVariants.{Sheet, Refused}
+use Rattle.fields.specs.Refusals.{Done, Refused}
 use Rattle.writing.specs.Writing.{write_outcome, writing}
-
--- the rows of a model's marks lie low
-pub row-le : (n j : ℕ) → n ≤ limits.columns → j < limits.steps → j * (n * 2) ≤ limits.steps * (limits.columns * 2)
-row-le n j hn hj = omega (arith, mul-le-mul {n₁ = j} {m₁ = n * 2} {n₂ = limits.steps} {m₂ = limits.columns * 2} (omega arith) (omega arith))
 
 -- ---- a writer's fill is 0
 put_fill : (b : ℕ) (l : List ℕ) → put_field b (fill_bits b) 0 l ≡ packed b (fill_part b (given 0)) l
 unfolding packed fill_part
 put_fill b l = refl
 
-then-none : (a b : ℕ) → b ≡ 0 → a then b ≡ a
-unfolding ◌then◌
-then-none zero b h = h
-then-none (suc a) b h = refl
-
 module _ (n m : ℕ) (frame costs marks : List ℕ) where
   abbrev P : Source
   P = of_tables n m frame costs marks
-
-  no-fill : judged (F P n m) ≡ 0
-  unfolding of_tables fill_part
-  no-fill = sym (good (fill_bits (model_bits n m)) (given 0) 6 (outside 0 0 0) refl (inside 0 0 0 (omega arith) (omega arith)))
 
   -- the tables of a writer, part after part
   pub given-header : {r : ℕ} → r ≡ judged (header_part (given 1) (given n) (given m)) → (r ≡ 0 → ⊥) → r ≡ judged (entries P)
   unfolding entries of_tables
   given-header e h = part-header P n m e h
 
-  module _ {r : ℕ} (e : r ≡ judged (header_part (given 1) (given n) (given m))) (z : r ≡ 0) {x : ℕ} (g : x ≡ judged (each n (column_part (column_in frame)))) where
-    pub given-columns : (x ≡ 0 → ⊥) → x ≡ judged (entries P)
-    unfolding entries of_tables
-    given-columns h = part-columns P n m e z g h
-
-    pub given-steps : x ≡ 0 → {y : ℕ} → y ≡ judged (each m (step_part (column_in frame) (in_table costs) (marks_in marks n) n)) → y ≡ judged (entries P)
-    unfolding entries of_tables fields_part
-    given-steps w {y} k =
-        went (H P n m) (C P n m ++ (S P n m ++ F P n m)) e z
-        (went (C P n m) (S P n m ++ F P n m) g w (k ∙ sym (judged-append (S P n m) (F P n m) ∙ then-none (judged (S P n m)) (judged (F P n m)) no-fill)))
+  pub given-body : {x : ℕ} → 0 ≡ judged (header_part (given 1) (given n) (given m)) → x ≡ judged (body_part P n m) → x ≡ judged (entries P)
+  unfolding entries of_tables
+  given-body e g = part-body P n m e refl g
 
   -- the fields of a writer, put part after part
   pub parts-put : (l : List ℕ) {l₁ l₂ l₃ l₄ : List ℕ} {b : ℕ} → l₁ ≡ packed 0 (header_part (given 1) (given n) (given m)) l → l₂ ≡ packed 17 (each n (column_part (column_in frame))) l₁ → l₃ ≡ packed (column_bits n) (each m (step_part (column_in frame) (in_table costs) (marks_in marks n) n)) l₂ → b ≡ model_bits n m → l₄ ≡ put_field b (fill_bits b) 0 l₃ → l₄ ≡ packed 0 (entries P) l
@@ -95,15 +74,15 @@ module _ (p : Source) (l : List ℕ) where
     unfolding write_checks
     accepted-write h = sym (last-went (entries p) (too_few bytes l ∷ []) e z (passes 8 _ [] (le-ltb (length l) bytes h) no-checks))
 
-    pub put_written : ((j : ℕ) → j < steps_in p → (p.cost j).value < 2 ^ 16) → Bytes l → {b : ℕ} {t : List ℕ} → b ≡ bytes → bytes ≤ length l → t ≡ packed 0 (entries p) l → write_outcome (Sheet b) t ≡ writing p l
+    pub put_written : ((j : ℕ) → j < steps_in p → (p.cost j).value < 2 ^ 16) → Bytes l → {b : ℕ} {t : List ℕ} → b ≡ bytes → bytes ≤ length l → t ≡ packed 0 (entries p) l → write_outcome (Done b) t ≡ writing p l
     unfolding writing over entries
     put_written costs bl {b} {t} q h et =
         simp (eq-eqb (refusal (write_checks p l)) 0 (accepted-write h))
-        (λ k. write_outcome (Sheet (q k)) ((et ∙ packed-over (entries p) bytes (fits p (sym e ∙ z) costs) (sheet-bits p (columns_in p) (steps_in p) ∙ whole-bytes (columns_in p) (steps_in p)) l bl h) k))
+        (λ k. write_outcome (Done (q k)) ((et ∙ packed-over (entries p) bytes (fits p (sym e ∙ z) costs) (sheet-bits p (columns_in p) (steps_in p) ∙ whole-bytes (columns_in p) (steps_in p)) l bl h) k))
 
--- the counts of an accepted model
-pub given-fine : (n m : ℕ) (frame costs marks : List ℕ) → judged (entries (of_tables n m frame costs marks)) ≡ 0 → (n ≤ limits.columns) × (m ≤ limits.steps)
-unfolding entries of_tables
-given-fine n m frame costs marks h =
-    let f = header-fine (given 1) (given n) (given m) (parts-fine (of_tables n m frame costs marks) n m h).0 in
-    (f.columns, f.steps)
+-- a writer's counts, once they are judged
+pub same-given : (frame costs marks l : List ℕ) {n n' m m' : ℕ} → Some n ≡ Some n' → Some m ≡ Some m' → writing (of_tables n' m' frame costs marks) l ≡ writing (of_tables n m frame costs marks) l
+same-given frame costs marks l {n} {n'} {m} {m'} e f =
+    let q : n' ≡ n = cc in
+    let r : m' ≡ m = cc in
+    ap₂ (λ (x y : ℕ). writing (of_tables x y frame costs marks) l) q r

@@ -1,6 +1,5 @@
 // Writing a model sheet from lent tables of plain numbers.
 #![tactic(auto)]
 
-mod given;
 mod put;
 pub mod write;

@@ -1,18 +1,14 @@
 // Writes a model from lent tables as a sheet.
+ghost use Rattle.fields.specs.Refusals.{told};
 ghost use Rattle.writing.specs.Writing.{WritesModel};
 
-use crate::given::judge_given;
 use crate::put::put_sheet;
+use fields::refusal::Refusal;
+use sheets::judge::{judge_body, judge_header};
 use sheets::model_bytes;
+use sheets::source::ModelTables;
 
-// The number of bytes written, or a refusal.
-#[derive(Clone, Copy)]
-pub enum SheetWritten {
-    Sheet(usize),
-    Refused(u8),
-}
-
-// Writes the sheet of a model of so many columns and steps, from tables as `read_model` fills them.
+// Writes the sheet of a model of so many columns and steps, from tables as `read_model` fills them. What is written is so many bytes.
 pub fn write_model(
     columns: usize,
     steps: usize,
@@ -20,18 +16,21 @@ pub fn write_model(
     costs: &[u16],
     marks: &[u8],
     sheet: &mut [u8],
-) -> SheetWritten
-    ensures { WritesModel columns steps frame.now costs.now marks.now sheet.old result
-        sheet.new }
+) -> Result<usize, Refusal>
+    ensures { WritesModel columns steps frame.now costs.now marks.now sheet.old (told result) sheet.new }
 {
-    let a = judge_given(columns, steps, frame, costs, marks);
-    if a != 0 {
-        return SheetWritten::Refused(a);
-    }
-    let bytes = model_bytes(columns, steps);
+    let shape = judge_header(Some(1), Some(columns), Some(steps))?;
+    let tables = ModelTables {
+        shape,
+        frame,
+        costs,
+        marks,
+    };
+    judge_body(&tables)?;
+    let bytes = model_bytes(shape);
     if sheet.len() < bytes {
-        return SheetWritten::Refused(8);
+        return Err(Refusal::Places);
     }
-    put_sheet(sheet, columns, steps, frame, costs, marks);
-    SheetWritten::Sheet(bytes)
+    put_sheet(&tables, sheet);
+    Ok(bytes)
 }

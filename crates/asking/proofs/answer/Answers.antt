@@ -17,15 +17,15 @@ fill_estimates-requires c =
     let w = q.tabled.own.wide in
     let v = q.tabled.task in
     let m = c.measure-count.ensures in
-    let h = m.fact_1.1 in (
-      measured t w v g.part.now g.sets.now q.fine q.made m.fact_1.0 h (replicate most_values 0) (search (rules, h)) m.fact_2 (replicate limits.blocks 0)
-          (m.fact_3 t q.tabled.own),
+    let h = m.counted.1 in (
+      measured t w v g.part.now g.blocks.now q.fine q.made m.counted.0 h (replicate most_values 0) (search (rules, h)) m.listed (replicate limits.blocks 0)
+          (m.measured t q.tabled.own),
       record {
         some = omega (arith, v.columns.0, w);
         wide = omega (arith, v.columns.1, w);
         few = rw w at (few-states t g.states.now q.good);
         room = rw w at a.room;
-        there = column-small t w v g.part.now g.sets.now q.fine q.made m.fact_1.0 h (replicate most_values 0) (search (rules, h)) m.fact_2;
+        there = column-small t w v g.part.now g.blocks.now q.fine q.made m.counted.0 h (replicate most_values 0) (search (rules, h)) m.listed;
         small = byte_fits t g.states.now q.good v;
       },
     )
@@ -34,8 +34,8 @@ pub returns : goal.returns
 returns c t q =
     let g = c.args in
     let m = c.measure-count.ensures in
-    let h = m.fact_1.1 in
-    answered t q.tabled.own.wide q.tabled.task g.part.now g.sets.now q.fine q.made m.fact_1.0 h (replicate most_values 0)
-    (search (rules, h)) m.fact_2
-    (replicate limits.blocks 0) (m.fact_3 t q.tabled.own) g.states.now g.estimates.now q.good
+    let h = m.counted.1 in
+    answered t q.tabled.own.wide q.tabled.task g.part.now g.blocks.now q.fine q.made m.counted.0 h (replicate most_values 0)
+    (search (rules, h)) m.listed
+    (replicate limits.blocks 0) (m.measured t q.tabled.own) g.states.now g.estimates.now q.good
     c.fill_estimates.ensures

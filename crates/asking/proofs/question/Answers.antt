@@ -1,59 +1,64 @@
+use Rattle.std.proofs.lemmas.Result.{err_from_is_err_and}
+use Rattle.fields.proofs.RefusalLaws.{number-ne0}
 use Rattle.cut_reading.proofs.RebuildLaws.{part-is}
-use Rattle.asking.proofs.AskingLaws.{sheets-refused, within, model-fine, states-refused, places-refused, posed, answerable, answered}
+use Rattle.asking.proofs.AskingLaws.{sheets-refused, within, model-fine, some-taken, states-refused, places-refused, posed, answerable, answered}
 use borrow.Author.Rules.{rules}
+use mathlib.Core.Path.{refl}
 use Rattle.asking.proofs.question.Goals as goal
 
-pub returns-then-r-ne0 : goal.returns-then-r-ne0
-returns-then-r-ne0 c =
+pub returns-in_err-judge_cut_sheet : goal.returns-in_err-judge_cut_sheet
+returns-in_err-judge_cut_sheet c =
     let g = c.args in
-    sheets-refused g.model.now g.sheet.now g.states.now g.estimates.now c.judge_cut_sheet-r.ensures c.if-r-ne0.true
+    let p = err_from_is_err_and c.from_residual.result c.from_residual.ensures.1 in
+    rw (p.1, p.2) (sheets-refused g.model.now g.sheet.now g.states.now g.estimates.now c.in_err-judge_cut_sheet.ensures (number-ne0 _))
 
-pub prepare-frame-requires : goal.prepare-frame-requires
-prepare-frame-requires c =
+pub prepare-requires : goal.prepare-requires
+prepare-requires c =
     let g = c.args in
-    (model-fine g.model.now g.sheet.now g.states.now g.estimates.now c.judge_cut_sheet-r.ensures c.if-r-ne0.false, search rules)
+    model-fine g.model.now g.sheet.now g.states.now g.estimates.now c.in_ok-judge_cut_sheet.ensures
 
-pub returns-then-bad-ne0 : goal.returns-then-bad-ne0
-returns-then-bad-ne0 c =
+pub judge_states-requires : goal.judge_states-requires
+judge_states-requires c =
     let g = c.args in
-    states-refused g.model.now g.sheet.now g.states.now g.estimates.now c.judge_cut_sheet-r.ensures c.if-r-ne0.false
-    c.prepare-frame.ensures c.judge_states-bad.ensures c.if-bad-ne0.true
+    let h = some-taken g.model.now g.sheet.now g.states.now g.estimates.now c.in_ok-judge_cut_sheet.ensures c.prepare.ensures in
+    h
+
+pub returns-in_err-judge_states : goal.returns-in_err-judge_states
+returns-in_err-judge_states c =
+    let g = c.args in
+    let r = c.from_residual-in_err-judge_states in
+    let p = err_from_is_err_and r.result r.ensures.1 in
+    rw (p.1, p.2)
+    (states-refused g.model.now g.sheet.now g.states.now g.estimates.now c.in_ok-judge_cut_sheet.ensures c.prepare.ensures c.in_err-judge_states.ensures (number-ne0 _))
 
 pub returns-then-estimates-asked : goal.returns-then-estimates-asked
 returns-then-estimates-asked c =
     let g = c.args in
-    places-refused g.model.now g.sheet.now g.states.now g.estimates.now c.judge_cut_sheet-r.ensures c.if-r-ne0.false
-    c.prepare-frame.ensures c.judge_states-bad.ensures c.if-bad-ne0.false c.if-estimates-asked.true
+    places-refused g.model.now g.sheet.now g.states.now g.estimates.now c.in_ok-judge_cut_sheet.ensures c.prepare.ensures c.in_ok-judge_states.ensures refl
+    c.if-estimates-asked.true
 
 pub slice_bounds-answer-count : goal.slice_bounds-answer-count
 slice_bounds-answer-count c =
     let g = c.args in
-    within g.model.now g.sheet.now g.states.now g.estimates.now c.judge_cut_sheet-r.ensures c.if-r-ne0.false
+    within g.model.now g.sheet.now g.states.now g.estimates.now c.in_ok-judge_cut_sheet.ensures
 
 pub slice_bounds-answer-start : goal.slice_bounds-answer-start
 slice_bounds-answer-start c =
     let g = c.args in
-    let h = within g.model.now g.sheet.now g.states.now g.estimates.now c.judge_cut_sheet-r.ensures c.if-r-ne0.false in
+    let h = within g.model.now g.sheet.now g.states.now g.estimates.now c.in_ok-judge_cut_sheet.ensures in
     search rules
 
 pub answer-requires : goal.answer-requires
 answer-requires c =
     let g = c.args in
-    let j = c.judge_cut_sheet-r.ensures in
-    let z = c.if-r-ne0.false in
-    answerable g.model.now g.sheet.now g.states.now g.estimates.now j z c.prepare-frame.ensures
-    c.judge_states-bad.ensures
-    c.if-bad-ne0.false c.if-estimates-asked.false (part-is g.model.now g.sheet.now g.estimates.now j z)
+    let j = c.in_ok-judge_cut_sheet.ensures in
+    answerable g.model.now g.sheet.now g.states.now g.estimates.now j c.prepare.ensures c.in_ok-judge_states.ensures refl
+    c.if-estimates-asked.false (part-is g.model.now g.sheet.now g.estimates.now j)
 
 pub returns : goal.returns
 returns c =
     let g = c.args in
-    let j = c.judge_cut_sheet-r.ensures in
-    let z = c.if-r-ne0.false in
-    let p = c.prepare-frame.ensures in
-    let b = c.judge_states-bad.ensures in
-    let k = c.if-bad-ne0.false in
-    let h = c.if-estimates-asked.false in
-    let q = part-is g.model.now g.sheet.now g.estimates.now j z in
-    answered g.model.now g.sheet.now g.states.now g.estimates.now j z p b k h q
-    (c.answer.ensures _ (posed g.model.now g.sheet.now g.states.now g.estimates.now j z p b k h q))
+    let j = c.in_ok-judge_cut_sheet.ensures in
+    let q = part-is g.model.now g.sheet.now g.estimates.now j in
+    answered g.model.now g.sheet.now g.states.now g.estimates.now j c.prepare.ensures c.in_ok-judge_states.ensures refl c.if-estimates-asked.false q
+    (c.answer.ensures _ (posed g.model.now g.sheet.now g.states.now g.estimates.now j c.prepare.ensures c.in_ok-judge_states.ensures refl c.if-estimates-asked.false q))

@@ -1,5 +1,6 @@
 use native.Mathlib.Omega.{arith}
-use mathlib.Core.Path.{refl, sym}
+use mathlib.Core.Path.{sym, ap}
+use lib.ListN.{length, get_or}
 use Rattle.task.specs.Task.{position}
 use Rattle.sheets.specs.Holding.{unused}
 use Rattle.task.specs.Sizes.{limits}
@@ -10,17 +11,17 @@ use Rattle.asking.proofs.read_state.Goals as goal
 
 pub loop-j-init : goal.loop-j-init
 unfolding unused
-loop-j-init c = (omega arith, sym (over_none _ _))
+loop-j-init c = sym (over_none _ _)
 
 pub loop-j-preserved : goal.loop-j-preserved
 unfolding place_in
 loop-j-preserved c =
-    let g = c.args in
+    let b = c.args.bytes.now in
     let l = c.loop-j in
-    (omega arith, over-set (place_in g.columns g.states.now g.k) l.j _ l.state (unused limits.columns (position 0)) l.invariant.1 (omega (arith, unused-length limits.columns (position 0))) refl)
+    over-set (place_in (length b) b 0) l.j _ l.state (unused limits.columns (position 0)) l.invariant (omega (arith, unused-length limits.columns (position 0))) (ap (λ i. position (get_or b i 0)) (omega arith))
 
 pub returns : goal.returns
 unfolding wide_state state_in
 returns c =
     let l = c.loop-j in
-    over-end _ _ l.j c.args.columns (omega arith) (omega arith) l.invariant.1
+    over-end _ _ l.j (length c.args.bytes.now) (omega arith) (omega arith) l.invariant

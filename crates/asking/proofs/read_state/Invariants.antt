@@ -1,5 +1,5 @@
-use Prim.Native.Nat.{◌-◌, ◌≤◌}
 use mathlib.Core.Path.{◌≡◌}
+use lib.ListN.{length}
 use Rattle.task.specs.Task.{position}
 use Rattle.task.specs.Loops.{tab, over}
 use Rattle.sheets.specs.Holding.{unused}
@@ -8,7 +8,4 @@ use Rattle.asking.specs.Question.{place_in}
 use Rattle.asking.proofs.read_state.Given as goal
 
 abbrev pub invariant-loop-j : goal.invariant-loop-j
-invariant-loop-j l = (l.j ≤ l.columns) × (l.state ≡ over (tab l.j (place_in l.columns l.states l.k)) (unused limits.columns (position 0)))
-
-abbrev pub decreases-loop-j : goal.decreases-loop-j
-decreases-loop-j l = l.columns - l.j
+invariant-loop-j l = l.state ≡ over (tab l.j (place_in (length l.bytes) l.bytes 0)) (unused limits.columns (position 0))

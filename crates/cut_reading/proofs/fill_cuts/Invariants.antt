@@ -1,4 +1,3 @@
-use Prim.Native.Nat.{◌-◌, ◌≤◌}
 use mathlib.Core.Path.{◌≡◌}
 use Rattle.cut_sheets.specs.CutPart.{cut_on}
 use Rattle.cut_sheets.specs.CutSheet.{cut_values}
@@ -7,7 +6,4 @@ use Rattle.fields.specs.Judging.{each}
 use Rattle.cut_reading.proofs.fill_cuts.Given as goal
 
 abbrev pub invariant-loop-i : goal.invariant-loop-i
-invariant-loop-i l = (l.i ≤ l.count) × (l.cuts ≡ puts 0 (each l.i (cut_values (cut_on l.part))) l.initial.cuts)
-
-abbrev pub decreases-loop-i : goal.decreases-loop-i
-decreases-loop-i l = l.count - l.i
+invariant-loop-i l = l.cuts ≡ puts 0 (each l.i (cut_values (cut_on l.part))) l.initial.cuts

@@ -1,63 +1,40 @@
-use mathlib.Core.Path.{sym, ◌∙◌}
+use mathlib.Core.Path.{sym}
 use lib.ListN.{length}
+use Rattle.std.proofs.lemmas.Result.{err_from_is_err_and}
 use Rattle.sheets.specs.Holding.{task_on}
 use Rattle.fields.proofs.PlaceLaws.{rest_all}
-use Rattle.cut_sheets.proofs.CutSheetLaws.{front-take}
-use Rattle.cut_reading.proofs.RebuildLaws.{whole-block, stops-model, stops-inner, stops-ten, ends}
-use Rattle.preparing.proofs.WholeLaws.{columns-small, wide, whole_long}
-use borrow.Author.Rules.{rules}
+use Rattle.fields.proofs.RefusalLaws.{number-ne0}
+use Rattle.cut_reading.proofs.RebuildLaws.{front-not, front_is, whole-block, stops-model, stops-inner, stops-ten, ends}
+use Rattle.preparing.proofs.WholeLaws.{columns-small, wide}
 use Rattle.cut_reading.proofs.judge_cut_sheet.Goals as goal
 
-pub returns-then-code-ne0 : goal.returns-then-code-ne0
-returns-then-code-ne0 c =
+pub returns-in_err-shape : goal.returns-in_err-shape
+returns-in_err-shape c =
     let g = c.args in
-    stops-model g.model.now g.sheet.now _ c.judge_sheet-code.ensures c.if-code-ne0.true
+    let p = err_from_is_err_and c.from_residual.result c.from_residual.ensures.1 in
+    rw (p.1, p.2) (stops-model g.model.now g.sheet.now _ c.in_err-shape.ensures.judged (number-ne0 _))
 
-pub returns-then-inner-ne0 : goal.returns-then-inner-ne0
-returns-then-inner-ne0 c =
+pub returns-in_err-judge_part : goal.returns-in_err-judge_part
+returns-in_err-judge_part c =
     let g = c.args in
-    stops-inner g.model.now g.sheet.now _ (sym c.judge_sheet-code.ensures ∙ c.if-code-ne0.false) c.judge_part-inner.ensures c.if-inner-ne0.true
+    let p = err_from_is_err_and c.from_residual-in_err-judge_part.result c.from_residual-in_err-judge_part.ensures.1 in
+    rw (p.1, p.2) (stops-inner g.model.now g.sheet.now _ (sym c.in_ok-shape.ensures.judged) c.in_err-judge_part.ensures.judged (number-ne0 _))
 
-pub returns-then-not-at_front : goal.returns-then-not-at_front
-returns-then-not-at_front c =
+pub returns-then-not-starts_with : goal.returns-then-not-starts_with
+returns-then-not-starts_with c =
     let g = c.args in
-    stops-ten g.model.now g.sheet.now _ (sym c.judge_sheet-code.ensures ∙ c.if-code-ne0.false) c.judge_part-inner.ensures c.if-inner-ne0.false
-    (sym c.at_front.ensures ∙ c.if-not-at_front.true)
+    stops-ten g.model.now g.sheet.now _ (sym c.in_ok-shape.ensures.judged) (sym c.in_ok-judge_part.ensures.judged) (front-not g.model.now g.sheet.now c.starts_with.ensures.value c.if-not-starts_with.true)
 
 pub fill_whole-requires : goal.fill_whole-requires
-fill_whole-requires c = ((sym c.judge_sheet-code.ensures ∙ c.if-code-ne0.false), c.field-columns.ensures, c.requires)
-
-pub slice_bounds-judge_cut_tail-count : goal.slice_bounds-judge_cut_tail-count
-slice_bounds-judge_cut_tail-count c =
-    let g = c.args in
-    (front-take g.model.now g.sheet.now
-    (sym c.at_front.ensures ∙ c.if-not-at_front.false)).0
-
-pub slice_bounds-judge_cut_tail-start : goal.slice_bounds-judge_cut_tail-start
-slice_bounds-judge_cut_tail-start c =
-    let g = c.args in
-    let h = (front-take g.model.now g.sheet.now (sym c.at_front.ensures ∙ c.if-not-at_front.false)).0 in
-    search rules
-
-pub slice_bounds-judge_cut_tail-end : goal.slice_bounds-judge_cut_tail-end
-slice_bounds-judge_cut_tail-end c =
-    let g = c.args in
-    let h = (front-take g.model.now g.sheet.now (sym c.at_front.ensures ∙ c.if-not-at_front.false)).0 in
-    search rules
+fill_whole-requires c = (sym c.in_ok-shape.ensures.judged, c.in_ok-shape.ensures.counts.0)
 
 pub judge_cut_tail-requires : goal.judge_cut_tail-requires
-judge_cut_tail-requires c =
-    let g = c.args in
-    let k = (sym c.judge_sheet-code.ensures ∙ c.if-code-ne0.false) in
-    let w = c.field-columns.ensures in
-    (columns-small g.model.now w k, whole_long g.model.now w k g.sets.now c.requires c.fill_whole.ensures)
+judge_cut_tail-requires c = columns-small c.args.model.now c.in_ok-shape.ensures.counts.0 (sym c.in_ok-shape.ensures.judged)
 
 pub returns : goal.returns
 returns c =
     let g = c.args in
-    let k = (sym c.judge_sheet-code.ensures ∙ c.if-code-ne0.false) in
-    let w = c.field-columns.ensures in
-    ends g.model.now g.sheet.now _ k (wide g.model.now w)
-    (sym c.at_front.ensures ∙ c.if-not-at_front.false)
-    (rest_all g.sheet.now (length g.model.now))
-    (c.judge_cut_tail.ensures (task_on g.model.now) (wide g.model.now w) (whole-block g.model.now w _ g.sets.now c.fill_whole.ensures))
+    let m = g.model.now in
+    let w = c.in_ok-shape.ensures.counts.0 in
+    ends m g.sheet.now _ (sym c.in_ok-shape.ensures.judged) (wide m w) (front_is m g.sheet.now c.starts_with.ensures.value c.if-not-starts_with.false) (rest_all g.sheet.now (length m))
+    (c.judge_cut_tail.ensures (task_on m) (wide m w) (whole-block m w _ _ c.fill_whole.new.blocks c.fill_whole.ensures.alone c.fill_whole.ensures.every))

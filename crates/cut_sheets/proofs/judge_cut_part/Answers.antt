@@ -1,35 +1,51 @@
+use mathlib.Core.Path.{sym, ◌∙◌}
+use Rattle.std.proofs.lemmas.Result.{err_from_is_err_and}
+use Rattle.fields.proofs.RefusalLaws.{number-ne0}
 use Rattle.sheets.proofs.SheetLaws.{fill-at}
-use Rattle.cut_sheets.proofs.JudgeLaws.{form-refused, count-refused, cuts-refused, fill-judged}
+use Rattle.cut_sheets.proofs.JudgeLaws.{form-refused, count-refused, cuts-refused, fill-judged, count-below, count-read}
 use Rattle.cut_sheets.proofs.judge_cut_part.Goals as goal
 
-pub returns-then-a-ne0 : goal.returns-then-a-ne0
-returns-then-a-ne0 c =
+pub returns-in_err-judge_within : goal.returns-in_err-judge_within
+returns-in_err-judge_within c =
     let g = c.args in
-    λ t e m. form-refused t g.s.now g.sets.now g.columns c.judge_field-a.ensures c.if-a-ne0.true
+    let p = err_from_is_err_and c.from_residual.result c.from_residual.ensures.1 in
+    λ t e m. rw (p.1, p.2) (form-refused t g.s.now g.blocks.now g.columns (c.in_err-judge_within.ensures.judged 4 _ c.whole_field.ensures) (number-ne0 _))
 
-pub returns-then-b-ne0 : goal.returns-then-b-ne0
-returns-then-b-ne0 c =
+pub returns-in_err-count : goal.returns-in_err-count
+returns-in_err-count c =
     let g = c.args in
-    λ t e m. count-refused t g.s.now c.judge_field-a.ensures c.if-a-ne0.false g.sets.now g.columns c.judge_field-b.ensures c.if-b-ne0.true
+    let p = err_from_is_err_and c.from_residual-in_err-count.result c.from_residual-in_err-count.ensures.1 in
+    λ t e m. rw (p.1, p.2)
+    (count-refused t g.s.now (c.in_ok-judge_within.ensures.judged 4 _ c.whole_field.ensures) g.blocks.now g.columns (c.in_err-count.ensures.judged 8 _ c.whole_field-2.ensures) (number-ne0 _))
 
-pub judge_cuts-c-requires : goal.judge_cuts-c-requires
-judge_cuts-c-requires c =
-    let p = c.requires in
-    (c.cut_count-count.ensures.1, p.0, p.1)
+pub judge_cuts-requires-clause-few : goal.judge_cuts-requires-clause-few
+judge_cuts-requires-clause-few c = count-below c.args.s.now (count-read c.args.s.now (sym c.in_ok-count.ensures.value ∙ c.whole_field-2.ensures))
 
-pub returns-then-c-ne0 : goal.returns-then-c-ne0
-returns-then-c-ne0 c =
+pub returns-in_err-judge_cuts : goal.returns-in_err-judge_cuts
+returns-in_err-judge_cuts c =
     let g = c.args in
-    λ t e m.
-    cuts-refused t g.s.now c.judge_field-a.ensures c.if-a-ne0.false c.judge_field-b.ensures c.if-b-ne0.false c.cut_count-count.ensures.0
-    _ g.columns (c.judge_cuts-c.ensures t e m) c.if-c-ne0.true
+    let s = g.s.now in
+    let p = err_from_is_err_and c.from_residual-in_err-judge_cuts.result c.from_residual-in_err-judge_cuts.ensures.1 in
+    λ t e m. rw (p.1, p.2)
+    (cuts-refused t s (c.in_ok-judge_within.ensures.judged 4 _ c.whole_field.ensures) (c.in_ok-count.ensures.judged 8 _ c.whole_field-2.ensures) (count-read s (sym c.in_ok-count.ensures.value ∙ c.whole_field-2.ensures))
+    _ g.columns (c.in_err-judge_cuts.ensures t e m) (number-ne0 _))
 
 pub cut_bits-bits-requires : goal.cut_bits-bits-requires
-cut_bits-bits-requires c = c.cut_count-count.ensures.1
+cut_bits-bits-requires c = count-below c.args.s.now (count-read c.args.s.now (sym c.in_ok-count.ensures.value ∙ c.whole_field-2.ensures))
+
+pub returns-in_err-judge_within-2 : goal.returns-in_err-judge_within-2
+returns-in_err-judge_within-2 c =
+    let g = c.args in
+    let s = g.s.now in
+    let p = err_from_is_err_and c.from_residual-in_err-judge_within-2.result c.from_residual-in_err-judge_within-2.ensures.1 in
+    λ t e m. rw (p.1, p.2)
+    (fill-judged t s (c.in_ok-judge_within.ensures.judged 4 _ c.whole_field.ensures) (c.in_ok-count.ensures.judged 8 _ c.whole_field-2.ensures) (count-read s (sym c.in_ok-count.ensures.value ∙ c.whole_field-2.ensures))
+    _ g.columns (c.in_ok-judge_cuts.ensures t e m) (fill-at s c.cut_bits-bits.ensures.place (c.in_err-judge_within-2.ensures.judged _ _ (rw c.fill_bits.ensures at c.whole_field-3.ensures))))
 
 pub returns : goal.returns
 returns c =
     let g = c.args in
+    let s = g.s.now in
     λ t e m.
-    fill-judged t g.s.now c.judge_field-a.ensures c.if-a-ne0.false c.judge_field-b.ensures c.if-b-ne0.false c.cut_count-count.ensures.0
-    _ g.columns (c.judge_cuts-c.ensures t e m) c.if-c-ne0.false (fill-at g.s.now c.cut_bits-bits.ensures.0 c.judge_field.ensures)
+    fill-judged t s (c.in_ok-judge_within.ensures.judged 4 _ c.whole_field.ensures) (c.in_ok-count.ensures.judged 8 _ c.whole_field-2.ensures) (count-read s (sym c.in_ok-count.ensures.value ∙ c.whole_field-2.ensures))
+    _ g.columns (c.in_ok-judge_cuts.ensures t e m) (fill-at s c.cut_bits-bits.ensures.place (c.in_ok-judge_within-2.ensures.judged _ _ (rw c.fill_bits.ensures at c.whole_field-3.ensures)))

@@ -1,45 +1,52 @@
-use Prim.Native.Nat.{◌<◌}
 use native.Mathlib.Omega.{arith}
-use mathlib.Core.Path.{ap, ◌∙◌}
-use lib.ListN.{length}
-use Rattle.task.specs.Sizes.{most_steps}
-use Rattle.cut_sheets.specs.CutPart.{cut_part, cut_on}
+use mathlib.Core.Path.{refl}
 use Rattle.fields.proofs.JudgingLaws.{none}
-use Rattle.cut_sheets.proofs.JudgeLaws.{going_on, going_end, going-stop, cuttable, more-long}
-use borrow.Author.Rules.{rules}
+use Rattle.fields.proofs.RefusalLaws.{number-ne0}
+use Rattle.std.proofs.lemmas.Result.{err_from_is_err_and}
+use Rattle.cut_sheets.specs.CutPart.{cut_part}
+use Rattle.cut_sheets.proofs.JudgeLaws.{first-made, going-unread, going-untaken, going_on, going_end, cuttable}
 use Rattle.cut_sheets.proofs.judge_cuts.Goals as goal
 
 pub loop-i-init : goal.loop-i-init
-loop-i-init c = (search rules, λ t e m. record { passed = none (cut_part t (cut_on c.args.s.now)); made = m })
+loop-i-init g c =
+    let f = g.C.Cuts.fields c.args.cuts.now in
+    let b = c.args.blocks.now in
+    record {
+      counted = refl;
+      going = λ t e m. record { passed = none (cut_part t f); made = first-made t f c.args.columns b.count b.sets m };
+    }
 
-pub returns-then-r-ne0 : goal.returns-then-r-ne0
-returns-then-r-ne0 c =
+pub returns-in_err-cut : goal.returns-in_err-cut
+returns-in_err-cut g c =
+    let a = c.args in
     let l = c.loop-i in
-    let g = c.args in
-    λ t e m. going-stop t (cut_on g.s.now) l.sets l.sets g.columns l.i g.count c.loop-i-test.true (l.invariant.1 t e m)
-    (c.judge_cut-r.ensures.refusal t e (l.invariant.1 t e m).made) c.if-r-ne0.true
+    let p = err_from_is_err_and c.from_residual.result c.from_residual.ensures.1 in
+    λ t e m. rw (p.1, p.2)
+    (going-unread t (g.C.Cuts.fields a.cuts.now) a.columns l.i l.blocks e c.requires.wide c.loop-i-test.true c.requires.few (number-ne0 _) (l.invariant.going t e m) c.in_err-cut.ensures)
+
+pub returns-then-not-takes_cut : goal.returns-then-not-takes_cut
+returns-then-not-takes_cut g c =
+    let a = c.args in
+    let l = c.loop-i in
+    λ t e m. going-untaken t (g.C.Cuts.fields a.cuts.now) a.columns l.i l.blocks e c.in_ok-cut.ensures c.takes_cut.ensures (l.invariant.going t e m) c.loop-i-test.true c.if-not-takes_cut.true
 
 pub make_cut-requires : goal.make_cut-requires
-make_cut-requires c =
-    let p = c.requires in
+make_cut-requires g c =
     let l = c.loop-i in
-    let g = c.args in
-    cuttable (cut_on g.s.now) l.sets g.columns l.i p.1 (omega (arith, p.0)) l.invariant.0.1 c.read_cut.ensures c.if-r-ne0.false c.judge_cut-r.ensures
+    cuttable c.args.columns l.blocks c.in_ok-cut.cut c.requires.wide (omega (arith, c.requires.few)) c.takes_cut.ensures c.if-not-takes_cut.false
 
 pub loop-i-preserved : goal.loop-i-preserved
-loop-i-preserved c =
-    let p = c.requires in
-    let j = c.judge_cut-r.ensures in
-    let g = c.args in
+loop-i-preserved g c =
+    let a = c.args in
     let l = c.loop-i in
-    let room : l.i < most_steps = omega (arith, p.0) in (
-      (search rules, ap length c.make_cut.ensures ∙ more-long (cut_on g.s.now) l.sets g.columns l.i p.1 room l.invariant.0.1 c.read_cut.ensures c.if-r-ne0.false j),
-      λ t e m.
-          going_on t (cut_on g.s.now) l.sets g.columns l.i p.1 room l.invariant.0.1 c.read_cut.ensures c.if-r-ne0.false j
-          (j.refusal t e (l.invariant.1 t e m).made) c.make_cut.ensures (l.invariant.1 t e m),
-    )
+    record {
+      counted = omega arith;
+      going = λ t e m.
+          going_on t (g.C.Cuts.fields a.cuts.now) a.columns l.i l.blocks e c.in_ok-cut.ensures c.takes_cut.ensures (l.invariant.going t e m) c.if-not-takes_cut.false c.make_cut.ensures.made;
+    }
 
 pub returns : goal.returns
-returns c =
-    let g = c.args in
-    λ t e m. going_end t (cut_on g.s.now) c.loop-i.sets g.columns c.loop-i.i g.count (omega arith) (omega arith) (c.loop-i.invariant.1 t e m)
+returns g c =
+    let a = c.args in
+    let l = c.loop-i in
+    λ t e m. going_end t (g.C.Cuts.fields a.cuts.now) a.columns l.i a.count l.blocks (omega arith) (omega arith) (l.invariant.going t e m)

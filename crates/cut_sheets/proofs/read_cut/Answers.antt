@@ -14,6 +14,6 @@ overflow_cast-result-2 c = omega (arith, field_lt c.args.s.now (c.cut_bits-at.re
 pub returns : goal.returns
 returns c =
     let g = c.args in
-    let s = g.s.now in
-    let q = c.cut_bits-at.ensures.0 in
-    named s g.i (read_at s 8 q c.field-block.ensures) (read_at s 4 (ap (λ (x : ℕ). x + 8) q) c.field-column.ensures) (read_at s 32 (ap (λ (x : ℕ). x + 8 + 4) q) c.field-wanted.ensures)
+    let q = c.cut_bits-at.ensures.place in
+    named g.s.now g.i (read_at g.s.now 8 q c.field-block.ensures) (read_at g.s.now 4 (ap (λ (x : ℕ). x + 8) q) c.field-column.ensures)
+    (read_at g.s.now 32 (ap (λ (x : ℕ). x + 8 + 4) q) c.field-wanted.ensures)

@@ -9,7 +9,7 @@ use Rattle.cut_writing.proofs.put_cut.Goals as goal
 pub returns : goal.returns
 unfolding packed cut_part cut_lent
 returns c =
-    let q = c.cut_bits-at.ensures.0 in
+    let q = c.cut_bits-at.ensures.place in
     λ t.
     put_next 32 c.put_field-3.ensures (ap (λ (x : ℕ). x + 8 + 4) q) refl
     (put_next 4 c.put_field-2.ensures (ap (λ (x : ℕ). x + 8) q) refl (put_next 8 c.put_field.ensures q refl refl))

@@ -1,4 +1,3 @@
-use Prim.Native.Nat.{◌-◌, ◌≤◌}
 use mathlib.Core.Path.{◌≡◌}
 use lib.ListN.{length}
 use Rattle.task.specs.Task.{Task}
@@ -9,7 +8,7 @@ use Rattle.cut_sheets.specs.CutSheet.{cut_lent}
 use Rattle.cut_writing.proofs.put_cuts.Given as goal
 
 abbrev pub invariant-loop-i : goal.invariant-loop-i
-invariant-loop-i l = ((l.i ≤ l.count) × (length l.out ≡ length l.initial.out)) × ((t : Task) → l.out ≡ packed 12 (each l.i (cut_part t (cut_lent l.cuts))) l.initial.out)
-
-abbrev pub decreases-loop-i : goal.decreases-loop-i
-decreases-loop-i l = l.count - l.i
+invariant-loop-i l = record {
+  long : length l.out ≡ length l.initial.out;
+  put : (t : Task) → l.out ≡ packed 12 (each l.i (cut_part t (cut_lent l.cuts))) l.initial.out;
+}

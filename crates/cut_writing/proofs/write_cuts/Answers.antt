@@ -1,38 +1,48 @@
 use native.Mathlib.Omega.{arith}
-use mathlib.Core.Path.{refl, sym, ◌∙◌}
-use Rattle.cut_writing.proofs.CutWritingLaws.{given-places, given-ok, given-refused, room-refused, put_written}
-use Prim.Native.Nat.{◌+◌, ◌*◌}
+use mathlib.Core.Path.{refl, ap}
+use borrow.Author.Rules.{rules}
+use mathlib.Core.List.{List, ◌++◌}
+use Prim.Native.Nat.{ℕ}
+use lib.ListN.{length, drop}
+use Rattle.std.proofs.lemmas.Result.{err_from_is_err_and}
+use Rattle.fields.proofs.RefusalLaws.{number-ne0}
 use Rattle.sheets.specs.Holding.{task_on}
+use Rattle.cut_sheets.proofs.CutPartLaws.{largest-part}
+use Rattle.cut_writing.proofs.CutWritingLaws.{places-given, given-refused, room-refused, put_written}
 use Rattle.cut_writing.proofs.write_cuts.Goals as goal
 
-pub returns-then-a-ne0 : goal.returns-then-a-ne0
-returns-then-a-ne0 c =
+pub returns-in_err-judge_given : goal.returns-in_err-judge_given
+returns-in_err-judge_given c =
     let g = c.args in
-    given-refused g.model.now g.count g.cuts.now g.sheet.now c.judge_given-a.ensures c.if-a-ne0.true
+    let p = err_from_is_err_and c.from_residual.result c.from_residual.ensures.1 in
+    rw (p.1, p.2) (given-refused g.model.now g.count g.cuts.now g.sheet.now c.in_err-judge_given.ensures (number-ne0 _))
 
-pub cut_bytes-bytes-requires : goal.cut_bytes-bytes-requires
-cut_bytes-bytes-requires c =
-    let g = c.args in
-    (given-places (task_on g.model.now) g.count g.cuts.now (given-ok g.model.now g.count g.cuts.now (sym c.judge_given-a.ensures ∙ c.if-a-ne0.false)).1).0
+pub cut_bytes-requires : goal.cut_bytes-requires
+cut_bytes-requires c = (places-given c.args.model.now c.args.count c.args.cuts.now c.in_ok-judge_given.ensures).0
 
-pub returns-then-sheet-bytes : goal.returns-then-sheet-bytes
-returns-then-sheet-bytes c =
-    let g = c.args in
-    room-refused g.model.now g.count g.cuts.now g.sheet.now c.judge_given-a.ensures c.if-a-ne0.false (omega (arith, c.cut_bytes-bytes.ensures))
+pub overflow_add-end : goal.overflow_add-end
+overflow_add-end c =
+    let q = c.cut_bytes.ensures in
+    let n = (places-given c.args.model.now c.args.count c.args.cuts.now c.in_ok-judge_given.ensures).0 in
+    let k = largest-part c.args.count (omega arith) in
+    omega (arith, q, k)
 
-pub returns-then-sheet-bytes-2 : goal.returns-then-sheet-bytes-2
-returns-then-sheet-bytes-2 c =
+pub returns-then-sheet-end : goal.returns-then-sheet-end
+returns-then-sheet-end c =
     let g = c.args in
-    room-refused g.model.now g.count g.cuts.now g.sheet.now c.judge_given-a.ensures c.if-a-ne0.false (omega (arith, c.cut_bytes-bytes.ensures))
+    let q = c.cut_bytes.ensures in
+    room-refused g.model.now g.count g.cuts.now g.sheet.now c.in_ok-judge_given.ensures (omega (arith, q))
 
-pub put_cut_part-requires : goal.put_cut_part-requires
-put_cut_part-requires c =
-    let g = c.args in
-    given-places (task_on g.model.now) g.count g.cuts.now (given-ok g.model.now g.count g.cuts.now (sym c.judge_given-a.ensures ∙ c.if-a-ne0.false)).1
+pub put_cut_part-requires-clause-few : goal.put_cut_part-requires-clause-few
+put_cut_part-requires-clause-few c = (places-given c.args.model.now c.args.count c.args.cuts.now c.in_ok-judge_given.ensures).0
+
+pub put_cut_part-requires-clause-places : goal.put_cut_part-requires-clause-places
+put_cut_part-requires-clause-places c = (places-given c.args.model.now c.args.count c.args.cuts.now c.in_ok-judge_given.ensures).1
 
 pub returns : goal.returns
 returns c =
     let g = c.args in
-    let q = c.cut_bytes-bytes.ensures in
-    put_written g.model.now g.count g.cuts.now g.sheet.now c.judge_given-a.ensures c.if-a-ne0.false (λ i. omega (arith, c.slice_known-1.given i)) (omega (arith, q))
-    (λ i l. omega (arith, c.shared_slice_known-2-1.given (i * 3 + 2))) (omega (arith, q)) c.put_front.ensures (c.put_cut_part.ensures (task_on g.model.now)) refl
+    let q = c.cut_bytes.ensures in
+    put_written g.model.now g.count g.cuts.now g.sheet.now c.in_ok-judge_given.ensures (λ i. search rules) (omega (arith, q))
+    (λ i h. search rules) (omega (arith, q))
+    (ap (λ (l : List ℕ). l ++ drop (length g.model.now) g.sheet.now) c.copy_from_slice.ensures.after) (c.put_cut_part.ensures (task_on g.model.now)) refl

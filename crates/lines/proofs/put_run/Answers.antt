@@ -1,23 +1,25 @@
 use native.Mathlib.Omega.{arith}
-use Rattle.lines.proofs.PrintedLaws.{counted, rows-go, lines-put}
+use Rattle.std.proofs.Common.{refl}
+use Rattle.running.specs.Counts.{row_count}
+use Rattle.lines.proofs.PrintedLaws.{counted, rows-go, lines-put, line-put}
 use Rattle.lines.proofs.put_run.Goals as goal
 
 pub put_first_line-next-requires : goal.put_first_line-next-requires
 put_first_line-next-requires c =
-    let g = c.args in
-    let p = c.requires in
-    (counted g.sheet.now g.room g.cuts.now g.rows.now (p.0, p.1) c.run-answer.ensures, omega (arith, p.2))
+    let g = c.args in record { counted = counted g.sheet.now g.room g.cuts.now g.rows.now (c.told-cuts, c.told-rows) c.in-Ok.ensures; room = omega (arith, c.requires) }
 
 pub put_rows-requires : goal.put_rows-requires
-put_rows-requires c =
-    let g = c.args in
-    let p = c.requires in
-    rows-go g.sheet.now g.room g.cuts.now g.rows.now (p.0, p.1) c.run-answer.ensures c.row_count-count.ensures p.2
-    c.put_first_line-next.ensures
+put_rows-requires c = let g = c.args in rows-go g.sheet.now g.room g.cuts.now g.rows.now (c.told-cuts, c.told-rows) c.in-Ok.ensures c.row_count.ensures c.requires c.put_first_line-next.ensures
 
-pub returns : goal.returns
-returns c =
+pub returns-in-Ok : goal.returns-in-Ok
+returns-in-Ok c =
     let g = c.args in
-    let p = c.requires in
-    lines-put g.sheet.now g.room g.cuts.now g.rows.now (p.0, p.1) c.run-answer.ensures c.row_count-count.ensures
-    c.put_first_line-next.ensures c.put_rows.ensures
+    lines-put g.sheet.now g.room g.cuts.now g.rows.now (c.told-cuts, c.told-rows) c.in-Ok.ensures c.row_count.ensures
+    c.put_first_line-next.ensures c.put_rows.ensures.put c.put_rows.ensures.short
+
+pub returns-in-Err : goal.returns-in-Err
+unfolding row_count
+returns-in-Err c =
+    let g = c.args in
+    let n = c.number.ensures in
+    line-put g.sheet.now g.room g.cuts.now g.rows.now (c.told-cuts, c.told-rows) c.in-Err.ensures refl (rw n at c.put_refused.ensures)

@@ -1,6 +1,5 @@
 use native.Mathlib.Omega.{arith}
 use mathlib.Core.Path.{◌≡◌, sym, ap, ◌∙◌}
-use lib.ListN.{length-set}
 use Rattle.fields.proofs.FieldLaws.{read_at}
 use Rattle.task.proofs.LoopLaws.{over_none, over-set}
 use Rattle.blocks.specs.Blocks.{every}
@@ -11,10 +10,7 @@ use borrow.Author.Rules.{rules}
 use Rattle.preparing.proofs.fill_whole.Goals as goal
 
 pub loop-j-init : goal.loop-j-init
-loop-j-init c = let p = c.requires in (omega arith, columns-small c.args.model.now p.1 p.0, p.2, sym (over_none _ _))
-
-pub column_bits-requires : goal.column_bits-requires
-column_bits-requires c = let i = c.loop-j.invariant in omega (arith, c.loop-j-test.true, i.1)
+loop-j-init c = let p = c.requires in (columns-small c.args.model.now p.1 p.0, sym (over_none _ _))
 
 pub overflow_cast-size : goal.overflow_cast-size
 unfolding size_on
@@ -38,11 +34,11 @@ loop-j-preserved c =
     let g = c.args in
     let t = c.loop-j-test.true in
     let e = read_at g.model.now 6 c.column_bits.ensures.0 c.field-size.ensures in
-    (omega (arith, t), l.invariant.1, simp length-set l.invariant.2, over-set (whole_on g.model.now) l.j _ l.sets g.sets.now l.invariant.3 (omega (arith, t, l.invariant.1, c.requires.2)) (c.every_position.ensures ∙ ap every e))
+    (l.invariant.0, over-set (whole_on g.model.now) l.j _ l.blocks.sets g.blocks.now.sets l.invariant.1 (omega (arith, t)) (c.every_position.ensures ∙ ap every e))
 
-pub returns : goal.returns
-returns c =
+pub returns-clause-every : goal.returns-clause-every
+returns-clause-every c =
     let l = c.loop-j in
     let g = c.args in
-    let e : l.j ≡ columns_of g.model.now = omega (arith, l.invariant.0, c.requires.1) in
-    rw (← whole-on g.model.now) (rw e at l.invariant.3)
+    let e : l.j ≡ columns_of g.model.now = omega (arith, c.requires.1) in
+    rw (← whole-on g.model.now) (rw e at l.invariant.1)

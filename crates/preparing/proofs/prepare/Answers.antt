@@ -1,8 +1,8 @@
 use Rattle.preparing.proofs.PreparingLaws.{own-accepted, prepared}
 use Rattle.preparing.proofs.prepare.Goals as goal
 
-pub fill_tables-requires : goal.fill_tables-requires
-fill_tables-requires c = (own-accepted c.args.sheet.now c.requires.0 c.unpack_accepted-model.ensures, c.requires.1)
+pub fill-requires : goal.fill-requires
+fill-requires c = own-accepted c.args.sheet.now c.requires c.read_accepted.ensures
 
 pub returns : goal.returns
-returns c = prepared c.args.sheet.now c.requires.0 c.unpack_accepted-model.ensures c.args.tables.now c.requires.1 c.fill_tables.ensures
+returns c = prepared c.args.sheet.now c.requires c.read_accepted.ensures c.fill.ensures.tabled c.fill.ensures.filled.sizes

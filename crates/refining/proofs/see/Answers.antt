@@ -2,10 +2,10 @@ use mathlib.Core.Path.{refl}
 use Rattle.refining.specs.Refining.{seen_by}
 use Rattle.refining.proofs.see.Goals as goal
 
-pub returns-in-Plan : goal.returns-in-Plan
+pub returns-in-Ok : goal.returns-in-Ok
 unfolding seen_by
-returns-in-Plan c = rw c.in-Plan.is refl
+returns-in-Ok c = rw c.in-Ok.is refl
 
-pub returns-in-Flaw : goal.returns-in-Flaw
+pub returns-in-Err : goal.returns-in-Err
 unfolding seen_by
-returns-in-Flaw c = rw c.in-Flaw.is refl
+returns-in-Err c = rw c.in-Err.is refl

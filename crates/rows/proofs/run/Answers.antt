@@ -1,13 +1,13 @@
-use mathlib.Core.Path.{refl, ap, ◌∙◌}
-use Prim.Native.Nat.{ℕ}
-use Rattle.rows.specs.Rows.{Filled, filling, row_run_outcome}
+use Rattle.std.proofs.Common.{refl, rules}
+use Rattle.running.specs.Counts.{row_count}
+use Rattle.rows.proofs.FillLaws.{nothing_put}
 use Rattle.rows.proofs.run.Goals as goal
 
-pub returns : goal.returns
-returns c =
-    let g = c.args in
-    let a = c.run_for-answer.result in
-    let vs = c.run_for-answer.new.values in
-    ap (row_run_outcome a c.run_for-answer.new.cuts)
-    (ap (λ (f : Filled). f.rows) c.put_rows.ensures ∙ ap (λ (n : ℕ). (filling g.rows.now vs n).rows) c.row_count.ensures)
-    ∙ c.run_for-answer.ensures g.rows.now refl
+pub returns-in_err-answer : goal.returns-in_err-answer
+unfolding row_count
+returns-in_err-answer c =
+    let x = c.in_err-answer.ensures c.args.rows.now refl in
+    let y = c.from_residual.ensures in
+    let z = nothing_put c.args.rows.now c.run_for.new.values in
+    let k = rw z at x in
+    search (rules, k)

@@ -1,13 +1,6 @@
-use Prim.Native.Nat.{ℕ, ◌*◌}
-use mathlib.Core.Path.{ap}
-use Rattle.running.specs.Counts.{row_value_count}
 use Rattle.running.proofs.CountLaws.{few-rows}
 use borrow.Author.Rules.{rules}
 use Rattle.running.proofs.row_values.Goals as goal
 
 pub overflow_mul-result : goal.overflow_mul-result
 overflow_mul-result c = let h = few-rows _ c.requires in let e = c.row_count.ensures in search (rules, h, e)
-
-pub returns : goal.returns
-unfolding row_value_count
-returns c = ap (λ (k : ℕ). k * 3) c.row_count.ensures

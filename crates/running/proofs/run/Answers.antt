@@ -1,78 +1,56 @@
-use Rattle.running.proofs.RunningLaws.{sheet-refused, fine, room-refused, fits, columns-read, long, parted, ready, known, room-for-steps, path-costs, ran}
-use lib.ListN.{replicate}
-use Rattle.task.specs.Sizes.{block_places}
+use mathlib.Core.Path.{sym}
 use native.Mathlib.Omega.{arith}
-use borrow.Author.Rules.{rules}
+use Rattle.std.proofs.lemmas.Result.{err_from_is_err_and}
+use Rattle.fields.proofs.RefusalLaws.{number-ne0}
+use Rattle.running.proofs.RunningLaws.{sheet-refused, room-refused, fits, columns-read, parted, ready, known, room-for-steps, path-costs, ran}
 use Rattle.running.proofs.run.Goals as goal
 
-pub returns-then-code-ne0 : goal.returns-then-code-ne0
-returns-then-code-ne0 c =
+pub returns-in_err-judge_sheet : goal.returns-in_err-judge_sheet
+returns-in_err-judge_sheet c =
     let g = c.args in
-    sheet-refused g.sheet.now g.room g.cuts.now g.rows.now c.judge_sheet-code.ensures c.if-code-ne0.true
+    let p = err_from_is_err_and c.from_residual.result c.from_residual.ensures.1 in
+    rw (p.1, p.2) (sheet-refused g.sheet.now g.room g.cuts.now g.rows.now c.in_err-judge_sheet.ensures.judged (number-ne0 _))
 
-pub returns-then-r-ne0 : goal.returns-then-r-ne0
-returns-then-r-ne0 c =
+pub returns-in_err-spare : goal.returns-in_err-spare
+returns-in_err-spare c =
     let g = c.args in
-    room-refused g.sheet.now g.room g.cuts.now g.rows.now c.judge_sheet-code.ensures c.if-code-ne0.false c.judge_room-r.ensures c.if-r-ne0.true
-
-pub overflow_sub-spare : goal.overflow_sub-spare
-overflow_sub-spare c =
-    let g = c.args in
-    let f = fits g.sheet.now g.room g.cuts.now g.rows.now c.judge_sheet-code.ensures c.if-code-ne0.false c.judge_room-r.ensures c.if-r-ne0.false in
-    let h = f.some in
-    search (rules, h)
+    let r = c.from_residual-in_err-spare in
+    let p = err_from_is_err_and r.result r.ensures.1 in
+    rw (p.1, p.2) (room-refused g.sheet.now g.room g.cuts.now g.rows.now c.in_ok-judge_sheet.ensures.judged c.in_err-spare.ensures.judged (number-ne0 _))
 
 pub fill_whole-requires : goal.fill_whole-requires
 fill_whole-requires c =
     let g = c.args in
-    let e = c.judge_sheet-code.ensures in
-    let z = c.if-code-ne0.false in
-    let j = c.judge_room-r.ensures in
-    let k = c.if-r-ne0.false in (
-      fine g.sheet.now g.room g.cuts.now g.rows.now e z,
-      columns-read g.sheet.now g.room g.cuts.now g.rows.now e z j k c.prepare-frame.ensures,
-      search rules,
-    )
+    let e = c.in_ok-judge_sheet.ensures.judged in
+    let j = c.in_ok-spare.ensures.judged in
+    (sym e, columns-read g.sheet.now g.room g.cuts.now g.rows.now e j c.prepare.ensures)
 
 pub refine-ended-requires : goal.refine-ended-requires
 refine-ended-requires c =
     let g = c.args in
-    let e = c.judge_sheet-code.ensures in
-    let z = c.if-code-ne0.false in
-    let j = c.judge_room-r.ensures in
-    let k = c.if-r-ne0.false in
-    let p = c.prepare-frame.ensures in
+    let e = c.in_ok-judge_sheet.ensures.judged in
+    let j = c.in_ok-spare.ensures.judged in
+    let f = fits g.sheet.now g.room g.cuts.now g.rows.now e j in
     let n = c.fill_whole.ensures in
-    let f = fits g.sheet.now g.room g.cuts.now g.rows.now e z j k in
-    record {
-      fact_1 = (omega (arith, f.few, f.some), f.cuts_fit);
-      fact_2 = (long g.sheet.now g.room g.cuts.now g.rows.now e z j k p (replicate block_places 0) n (search rules), search rules);
-      fact_3 = ready g.sheet.now g.room g.cuts.now g.rows.now e z j k p (replicate block_places 0) n;
-    }
+    let r = c.in_ok-spare.ensures.spared in
+    record { few = omega (arith, f.few, f.some, r); room = rw r f.cuts_fit; first = ready g.sheet.now g.room g.cuts.now g.rows.now e j c.prepare.ensures _ _ n.alone n.every }
 
 pub tell-requires : goal.tell-requires
 tell-requires c =
     let g = c.args in
-    let e = c.judge_sheet-code.ensures in
-    let z = c.if-code-ne0.false in
-    let j = c.judge_room-r.ensures in
-    let k = c.if-r-ne0.false in
-    let p = c.prepare-frame.ensures in
+    let e = c.in_ok-judge_sheet.ensures.judged in
+    let j = c.in_ok-spare.ensures.judged in
+    let p = c.prepare.ensures in
     let n = c.fill_whole.ensures in
-    let w = c.refine-ended.ensures.fact_1 _ p.tabled (parted g.sheet.now g.room g.cuts.now g.rows.now e z j k p (replicate block_places 0) n) in (
-      known g.sheet.now g.room g.cuts.now g.rows.now e z j k p w,
-      room-for-steps g.sheet.now g.room g.cuts.now g.rows.now e z j k p w,
-    )
+    let w = rw c.in_ok-spare.ensures.spared at (c.refine-ended.ensures _ p.tabled (parted g.sheet.now g.room g.cuts.now g.rows.now e j p _ _ n.alone n.every)) in
+    record { known = known g.sheet.now g.room g.cuts.now g.rows.now e j p w; room = room-for-steps g.sheet.now g.room g.cuts.now g.rows.now e j p w }
 
 pub returns : goal.returns
 returns c =
     let g = c.args in
-    let e = c.judge_sheet-code.ensures in
-    let z = c.if-code-ne0.false in
-    let j = c.judge_room-r.ensures in
-    let k = c.if-r-ne0.false in
-    let p = c.prepare-frame.ensures in
+    let e = c.in_ok-judge_sheet.ensures.judged in
+    let j = c.in_ok-spare.ensures.judged in
+    let p = c.prepare.ensures in
     let n = c.fill_whole.ensures in
-    let w = c.refine-ended.ensures.fact_1 _ p.tabled (parted g.sheet.now g.room g.cuts.now g.rows.now e z j k p (replicate block_places 0) n) in
-    ran g.sheet.now g.room g.cuts.now g.rows.now e z j k p w
-    (c.tell.ensures _ (path-costs g.sheet.now g.room g.cuts.now g.rows.now e z j k p w))
+    let w = rw c.in_ok-spare.ensures.spared at (c.refine-ended.ensures _ p.tabled (parted g.sheet.now g.room g.cuts.now g.rows.now e j p _ _ n.alone n.every)) in
+    ran g.sheet.now g.room g.cuts.now g.rows.now e j p w (c.tell.ensures _ (path-costs g.sheet.now g.room g.cuts.now g.rows.now e j p w))

@@ -1,12 +1,14 @@
-use mathlib.Core.Path.{sym, ◌∙◌}
-use mathlib.Core.List.{[]}
-use Rattle.arcs.proofs.ArcLaws.{fits-row}
-use Rattle.settling.proofs.LowerLaws.{no-landing, lands-there}
-use borrow.Author.Rules.{rules}
+use Rattle.blocks.specs.Masks.{lands_in}
+use Rattle.arcs.specs.Words.{arc_word}
+use Rattle.arcs.proofs.ArcLaws.{told-word}
+use Rattle.settling.proofs.LowerLaws.{word_more}
 use Rattle.settling.proofs.lower.Goals as goal
 
-pub returns-then-not-fits_in : goal.returns-then-not-fits_in
-returns-then-not-fits_in c = record { fact_1 = no-landing _ _ _ _ _ _ _ _ _ _ _ _ _ [] (sym (c.fits_in.ensures ∙ fits-row _ _ _ _ _) ∙ c.if-not-fits_in.true); fact_2 = search rules }
-
-pub returns : goal.returns
-returns c = record { fact_1 = lands-there _ _ _ _ _ _ _ _ _ _ _ _ _ _ (sym (c.fits_in.ensures ∙ fits-row _ _ _ _ _) ∙ c.if-not-fits_in.false) c.sweep.ensures.fact_1; fact_2 = c.sweep.ensures.fact_2 }
+pub loop-w-preserved : goal.loop-w-preserved
+unfolding arc_word
+loop-w-preserved c =
+    let l = c.loop-w in
+    let g = c.args in
+    let a = g.arcs.now in
+    word_more l.w _ g.k _ _ _ _ l.invariant c.lower_word.ensures
+    (λ i h. told-word a.few a.narrow (lands_in g.tables.now.rows) a.able a.meets a.left g.s l.w _ i h c.arc_word.ensures)

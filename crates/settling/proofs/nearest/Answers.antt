@@ -1,21 +1,20 @@
+use mathlib.Core.Path.{sym, ◌∙◌}
+use mathlib.Core.Bool.{false≢true}
 use native.Mathlib.Omega.{arith}
-use Rattle.settling.proofs.PickLaws.{scan-start, scan-skip, scan-take, scan-end}
+use Rattle.settling.proofs.PickLaws.{scan-skip, scan-take, scan-end}
 use Rattle.settling.proofs.nearest.Goals as goal
-use Rattle.settling.proofs.nearest.Goals.{then-done-i-eq0+then-d-low, then-done-i-eq0+else-d-low, else-done-i-eq0}
+use Rattle.settling.proofs.nearest.Goals.{then-not-done-a+then-dist-a, else-not-done-a, else-not-done-a-via-then-not-done-a+else-dist-a, else-not-done-a-via-else-not-done-a}
 
-pub loop-i-init : goal.loop-i-init
-loop-i-init c = (omega arith, scan-start _ _ _)
-
-pub loop-i-preserved : goal.loop-i-preserved
-loop-i-preserved c =
-    let s = c.loop-i.invariant.1 in (
-      omega arith,
-      elim c.if-done-i-eq0.branch [
-        | then-done-i-eq0+then-d-low w ↦ rw (w.best-is, w.low-is) (scan-take _ _ _ s c.loop-i-test.true w.if-done-i-eq0.true w.if-d-low.true)
-        | then-done-i-eq0+else-d-low w ↦ rw (w.best-is, w.low-is) (scan-skip _ _ _ s (λ _. w.if-d-low.false))
-        | else-done-i-eq0 w ↦ rw (w.best-is, w.low-is) (scan-skip _ _ _ s (λ e. absurd (w.if-done-i-eq0.false e)))
-      ],
-    )
+pub loop-a-preserved : goal.loop-a-preserved
+loop-a-preserved c =
+    let s = c.loop-a.invariant in
+    elim c.if-not-done-a.branch [
+      | then-not-done-a+then-dist-a w ↦ rw (w.best-is, w.low-is) (scan-take _ _ _ s c.loop-a-test.true w.if-not-done-a.true (omega (arith, w.if-dist-a.true)))
+      | else-not-done-a w ↦ rw (w.best-is, w.low-is) (elim w.else-not-done-a.branch [
+        | else-not-done-a-via-then-not-done-a+else-dist-a v ↦ scan-skip _ _ _ s (λ _. v.if-dist-a.false)
+        | else-not-done-a-via-else-not-done-a v ↦ scan-skip _ _ _ s (λ e. absurd (false≢true (sym e ∙ v.if-not-done-a.false)))
+      ])
+    ]
 
 pub returns : goal.returns
-returns c = scan-end _ _ _ c.loop-i.invariant.1 (omega arith)
+returns c = scan-end _ _ _ c.loop-a.invariant (omega arith)

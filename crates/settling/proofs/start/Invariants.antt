@@ -1,5 +1,4 @@
 use mathlib.Core.Path.{◌≡◌}
-use Prim.Native.Nat.{◌≤◌, ◌-◌}
 use lib.ListN.{length}
 use Rattle.task.specs.Sizes.{limits}
 use Rattle.blocks.specs.Masks.{goals_in, goal_by}
@@ -7,7 +6,7 @@ use Rattle.settling.specs.Turns.{Started}
 use Rattle.settling.proofs.start.Given as goal
 
 abbrev pub invariant-loop-a : goal.invariant-loop-a
-invariant-loop-a l = (l.a ≤ l.count) × (length l.dist ≡ limits.blocks) × Started (goal_by l.columns (goals_in l.tables) l.sets) l.a l.initial.dist l.dist
-
-abbrev pub decreases-loop-a : goal.decreases-loop-a
-decreases-loop-a l = l.count - l.a
+invariant-loop-a l = record {
+  size : length l.dist ≡ limits.blocks;
+  started : Started (goal_by l.tables.shape.columns (goals_in l.tables.rows) l.blocks.sets) l.a l.initial.dist l.dist;
+}

@@ -1,12 +1,19 @@
-use mathlib.Core.Path.{sym, ◌∙◌}
+use Rattle.std.proofs.Common.{refl, ap₂, ◌∙◌}
+use Rattle.fields.proofs.RefusalLaws.{number-ne0, number-handed}
+use Rattle.sheets.specs.ModelSheet.{model_bytes}
 use Rattle.sheets.proofs.SheetLaws.{sheet-stopped, sheet-end}
 use Rattle.sheets.proofs.judge_sheet.Goals as goal
 
-pub returns-then-a-ne0 : goal.returns-then-a-ne0
-returns-then-a-ne0 c = sheet-stopped c.args.s.now c.judge_part-a.ensures c.if-a-ne0.true
+pub returns-in_err-shape-clause-judged : goal.returns-in_err-shape-clause-judged
+returns-in_err-shape-clause-judged c = number-handed _ _ c.from_residual.ensures.1 ∙ sheet-stopped c.args.s.now c.in_err-shape.ensures.judged (number-ne0 _)
 
-pub model_end-requires : goal.model_end-requires
-model_end-requires c = sym c.judge_part-a.ensures ∙ c.if-a-ne0.false
+pub returns-in_err-judge_end-clause-judged : goal.returns-in_err-judge_end-clause-judged
+returns-in_err-judge_end-clause-judged c =
+    let ok = c.in_ok-shape.ensures in
+    number-handed _ _ c.from_residual-in_err-judge_end.ensures.1
+    ∙ sheet-end c.args.s.now ok.judged refl (c.model_bytes.ensures ∙ ap₂ model_bytes ok.counts.0 ok.counts.1) c.in_err-judge_end.ensures
 
-pub returns : goal.returns
-returns c = sheet-end c.args.s.now c.judge_part-a.ensures c.if-a-ne0.false c.model_end.ensures c.judge_end.ensures
+pub returns-clause-judged : goal.returns-clause-judged
+returns-clause-judged c =
+    let ok = c.in_ok-shape.ensures in
+    sheet-end c.args.s.now ok.judged refl (c.model_bytes.ensures ∙ ap₂ model_bytes ok.counts.0 ok.counts.1) c.in_ok-judge_end.ensures

@@ -1,10 +1,7 @@
-use mathlib.Core.Path.{ap}
+use Rattle.std.proofs.Common.{arith}
 use Rattle.fields.specs.Packing.{bytes_for}
 use Rattle.sheets.proofs.model_bytes.Goals as goal
 
-pub model_bits-requires : goal.model_bits-requires
-model_bits-requires c = c.requires
-
 pub returns : goal.returns
 unfolding bytes_for
-returns c = ap bytes_for c.model_bits.ensures.0
+returns c = omega (arith, c.div_ceil.ensures, c.model_bits.ensures.0)

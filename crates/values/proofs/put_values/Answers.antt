@@ -1,22 +1,21 @@
-use Prim.Native.Nat.{◌+◌}
-use native.Mathlib.Omega.{arith}
-use mathlib.Core.Path.{refl, sym, ap, ◌∙◌}
-use lib.ListN.{length}
-use Rattle.fields.specs.Judging.{each}
-use Rattle.fields.proofs.PlaceLaws.{puts-end, puts-length}
+use Rattle.std.proofs.Common.{◌≡◌, ◌*◌, ◌+◌, ◌-◌, sym, ap, ◌∙◌, map, get_or, length-take-le, get_or-take, arith}
+use Rattle.std.proofs.lemmas.List.{get_or-map}
+use borrow.Rule.Slice.PartMut.{put_mid}
+use Rattle.fields.proofs.PlaceLaws.{puts_none}
 use Rattle.values.specs.Values.{bytes_at}
-use Rattle.values.proofs.ValueLaws.{value-put, nothing_put}
+use Rattle.values.proofs.ValueLaws.{value-put}
 use Rattle.values.proofs.put_values.Goals as goal
 
 pub loop-i-init : goal.loop-i-init
-loop-i-init c = (omega arith, refl, sym (nothing_put _ _))
+loop-i-init g c = puts_none 0 (bytes_at (map g.V.Value.worth c.args.values.now)) c.args.bytes.now
 
 pub loop-i-preserved : goal.loop-i-preserved
-loop-i-preserved c =
-    let g = c.args in
-    let l = c.loop-i in
-    let p = c.put_value.ensures ∙ value-put g.values.now l.i g.bytes.now l.invariant.2 in
-    (omega arith, ap length p ∙ puts-length 0 (each (l.i + 1) (bytes_at g.values.now)) g.bytes.now, p)
-
-pub returns : goal.returns
-returns c = let g = c.args in puts-end 0 (bytes_at g.values.now) g.bytes.now c.loop-i.i g.n c.loop-i.invariant.0 c.loop-i-test.false c.loop-i.invariant.2
+loop-i-preserved g c =
+    let worth = g.V.Value.worth in
+    let vs = c.args.values.now in
+    let i = c.loop-i.i in
+    let v = c.v-item.result in
+    let n = length-take-le c.args.n vs c.requires.given in
+    let q : worth v ≡ get_or (map worth vs) i 0 = ap worth (c.v-item.is ∙ get_or-take _ vs i v (omega arith)) ∙ sym (get_or-map worth vs i v 0 (omega (arith, c.requires.given))) in
+    ap (put_mid (i * 4) (i * 4 + 4 - i * 4) c.loop-i.bytes) (c.copy_from_slice.ensures.after ∙ c.bytes.ensures)
+    ∙ value-put (map worth vs) i (worth v) c.args.bytes.now (omega (arith, c.requires.room)) q c.loop-i.invariant

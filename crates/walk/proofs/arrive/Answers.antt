@@ -1,20 +1,12 @@
-use mathlib.Core.Path.{◌≡◌, refl, sym, ◌∙◌}
-use mathlib.Core.Bool.{true, false}
-use Rattle.walk.specs.Walking.{arrive_by}
-use Rattle.standing.specs.Standing.{goal_at_end}
-use Rattle.blocks.specs.Masks.{goals_in}
+use mathlib.Core.Path.{refl, sym, ◌∙◌, ap}
+use Rattle.std.specs.Prelude.{Err}
+use Rattle.walk.specs.Walking.{Found, arrive_by}
 use Rattle.walk.proofs.arrive.Goals as goal
 
 pub returns-then-is_goal : goal.returns-then-is_goal
 unfolding arrive_by
-returns-then-is_goal c =
-    let g = c.args in
-    let e : goal_at_end g.columns (goals_in g.tables.now) g.here.now ≡ true = sym c.is_goal.ensures ∙ c.if-is_goal.true in
-    rw e refl
+returns-then-is_goal c = rw (sym c.is_goal.ensures ∙ c.if-is_goal.true) refl
 
 pub returns : goal.returns
 unfolding arrive_by
-returns c =
-    let g = c.args in
-    let e : goal_at_end g.columns (goals_in g.tables.now) g.here.now ≡ false = sym c.is_goal.ensures ∙ c.if-is_goal.false in
-    rw (e, c.row_cut.ensures) refl
+returns c = rw (sym c.is_goal.ensures ∙ c.if-is_goal.false) (ap {B = Found} Err c.row_cut.ensures)

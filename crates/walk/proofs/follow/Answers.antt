@@ -1,66 +1,68 @@
-use mathlib.Core.Path.{ap, ◌∙◌}
-use lib.ListN.{length}
-use Rattle.standing.proofs.StartLaws.{start-long}
+use native.Mathlib.Omega.{arith}
+use borrow.Author.Rules.{rules}
+use mathlib.Core.Path.{◌≡◌, refl, sym, ap, ◌∙◌}
+use Prim.Native.Nat.{◌%◌, ◌<◌}
+use lib.ListN.{get_or}
+use Rattle.task.specs.Sizes.{limits, tenth}
+use Rattle.std.specs.Prelude.{Ok, Err, None}
+use Rattle.std.proofs.lemmas.Result.{err_from_is_err_and}
+use Rattle.blocks.specs.Masks.{lands_in, goals_in}
+use Rattle.walk.specs.Walking.{Found, Turn}
 use Rattle.walk.proofs.FollowLaws.{going-none, going_more, going-all, going-ended, going-flawed, known-end, known-flawed}
 use Rattle.walk.proofs.WalkLaws.{answers}
-use Rattle.blocks.specs.Masks.{lands_in, goals_in}
-use borrow.Author.Rules.{rules}
 use Rattle.walk.proofs.follow.Goals as goal
-use Rattle.walk.proofs.follow.Goals.{else-loop-i-test, then-loop-i-test+in-Ended}
 
 pub loop-i-init : goal.loop-i-init
-loop-i-init c =
-    let b = c.stand.ensures in
-    going-none _ _ _ _ _ _ _ _ _ _ _ _ _ (search rules) (ap length b ∙ start-long _) (search rules)
+loop-i-init c = going-none _ _ _ _ _ _ _ _ _ _ _ _ _ c.requires.made (search rules)
 
-pub returns-in-Flawed : goal.returns-in-Flawed
-returns-in-Flawed c =
+pub returns-in_err-next : goal.returns-in_err-next
+returns-in_err-next c =
     let g = c.args in
-    let q = c.requires in
+    let t = g.tables.now in
+    let b = g.blocks.now in
     let l = c.loop-i in
-    let b = c.stand.ensures in
-    let h = c.hop-turn in
-    let w = c.in-Flawed in
-    let r =
-    answers g.shape g.count g.«from» g.tables.now g.costs.now g.sets.now g.dist.now g.path.now q.fact_1.1 q.fact_1.2 q.fact_2.1 _
-    _ _
-    (rw b at (going-flawed g.shape.columns g.shape.steps g.count g.tables.now (lands_in g.tables.now) (goals_in g.tables.now) g.costs.now g.sets.now g.dist.now _ _ l.i l.a l.here l.path l.invariant h.result _ h.ensures.fact_1 h.ensures.fact_2 c.loop-i-test.true w.cut w.is))
-    (known-flawed g.shape.columns g.shape.steps g.count g.tables.now (lands_in g.tables.now) (goals_in g.tables.now) g.costs.now g.sets.now g.dist.now _ _ l.i l.a l.here l.path l.invariant _)
-    l.invariant.long in
-    record { fact_1 = r.0; fact_2 = r.1.0; fact_3 = r.1.1 }
+    let cut = c.in_err-next.field-0.0 in
+    let p = err_from_is_err_and c.from_residual.result c.from_residual.ensures.1 in
+    let is : ◌≡◌ {A = Found} c.from_residual.result (Err cut) = p.1 ∙ ap {B = Found} Err p.2 in
+    let turned = going-flawed t.shape.columns t.shape.steps b.count t.rows (lands_in t.rows) (goals_in t.rows) t.costs b.sets g.dist.now _ _ l.i l.a l.here.sets l.path l.invariant c.hop.result _ c.hop.ensures.turned c.hop.ensures.stands c.loop-i-test.true cut c.in_err-next.was in
+    let known = known-flawed t.shape.columns t.shape.steps b.count t.rows (lands_in t.rows) (goals_in t.rows) t.costs b.sets g.dist.now _ _ l.i l.a l.here.sets l.path l.invariant cut in
+    let r = answers t b g.dist.now g.«from» g.path.now c.requires.made (search rules) _ _ _
+    (rw (c.at_start-here.ensures, c.from.ensures) at (rw (sym is) at turned)) (rw (sym is) at known) in
+    record { followed = r.0; known = r.1; right = r.2 }
+
+pub returns-in_default : goal.returns-in_default
+returns-in_default c =
+    let g = c.args in
+    let t = g.tables.now in
+    let b = g.blocks.now in
+    let l = c.loop-i in
+    let none : ◌≡◌ {A = Turn} c.hop.result (Ok None) = c.in_ok-next.was ∙ ap {B = Turn} Ok c.in_default.is in
+    let turned = going-ended t.shape.columns t.shape.steps b.count t.rows (lands_in t.rows) (goals_in t.rows) t.costs b.sets g.dist.now _ _ l.i l.a l.here.sets l.path l.invariant c.hop.result _ c.hop.ensures.turned c.hop.ensures.stands c.loop-i-test.true _ none c.arrive.ensures in
+    let few : get_or g.dist.now c.from.result 0 % tenth < limits.blocks = rw c.from.ensures c.requires.short in
+    let known = known-end t.shape.columns t.shape.steps b.count t.rows (lands_in t.rows) (goals_in t.rows) t.costs b.sets g.dist.now _ _ l.i l.a l.here.sets l.path l.invariant _ _ _ refl c.arrive.ensures (omega arith) in
+    let r = answers t b g.dist.now g.«from» g.path.now c.requires.made (search rules) _ _ _
+    (rw (c.at_start-here.ensures, c.from.ensures) at turned) known in
+    record { followed = r.0; known = r.1; right = r.2 }
 
 pub loop-i-preserved : goal.loop-i-preserved
 loop-i-preserved c =
     let g = c.args in
+    let t = g.tables.now in
+    let b = g.blocks.now in
     let l = c.loop-i in
-    let h = c.hop-turn in
-    let w = c.in-Went in
-    going_more g.shape.columns g.shape.steps g.count g.tables.now (lands_in g.tables.now) (goals_in g.tables.now) g.costs.now
-    g.sets.now g.dist.now _ _ l.i
-    l.a l.here l.path l.invariant h.result _ h.ensures.fact_1 h.ensures.fact_2 c.loop-i-test.true w.s w.b w.is
-    h.ensures.fact_3 c.requires.fact_2.0
-
-pub arrive-requires : goal.arrive-requires
-arrive-requires c = let m = c.loop-i.invariant.made in search (m, rules)
+    let next = c.in_ok-next.was ∙ ap {B = Turn} Ok c.in-Some.is in
+    let few : get_or g.dist.now c.from.result 0 % tenth < limits.blocks = rw c.from.ensures c.requires.short in
+    going_more t.shape.columns t.shape.steps b.count t.rows (lands_in t.rows) (goals_in t.rows) t.costs b.sets g.dist.now _ _ l.i l.a l.here.sets l.path l.invariant c.hop.result _ c.hop.ensures.turned c.hop.ensures.stands c.loop-i-test.true c.in-Some.next next few
 
 pub returns : goal.returns
 returns c =
     let g = c.args in
-    let q = c.requires in
+    let t = g.tables.now in
+    let b = g.blocks.now in
     let l = c.loop-i in
-    let b = c.stand.ensures in
-    let ends = c.arrive.ensures in
-    elim c.loop-i-test.branch [
-      | else-loop-i-test w ↦
-          let r =
-          answers g.shape g.count g.«from» g.tables.now g.costs.now g.sets.now g.dist.now g.path.now q.fact_1.1 q.fact_1.2 q.fact_2.1 _ _ _
-          (rw b at (going-all g.shape.columns g.shape.steps g.count g.tables.now (lands_in g.tables.now) (goals_in g.tables.now) g.costs.now g.sets.now g.dist.now _ _ l.i l.a l.here l.path l.invariant _ _ w.loop-i-test.false w.here-is ends))
-          (known-end g.shape.columns g.shape.steps g.count g.tables.now (lands_in g.tables.now) (goals_in g.tables.now) g.costs.now g.sets.now g.dist.now _ _ l.i l.a l.here l.path l.invariant _ _ ends q.fact_2.0) l.invariant.long in
-          record { fact_1 = r.0; fact_2 = r.1.0; fact_3 = r.1.1 }
-      | then-loop-i-test+in-Ended w ↦
-          let r =
-          answers g.shape g.count g.«from» g.tables.now g.costs.now g.sets.now g.dist.now g.path.now q.fact_1.1 q.fact_1.2 q.fact_2.1 _ _ _
-          (rw b at (going-ended g.shape.columns g.shape.steps g.count g.tables.now (lands_in g.tables.now) (goals_in g.tables.now) g.costs.now g.sets.now g.dist.now _ _ l.i l.a l.here l.path l.invariant w.hop-turn.result _ w.hop-turn.ensures.fact_1 w.hop-turn.ensures.fact_2 w.loop-i-test.true _ _ w.in-Ended.is w.here-is ends))
-          (known-end g.shape.columns g.shape.steps g.count g.tables.now (lands_in g.tables.now) (goals_in g.tables.now) g.costs.now g.sets.now g.dist.now _ _ l.i l.a l.here l.path l.invariant _ _ ends q.fact_2.0) l.invariant.long in
-          record { fact_1 = r.0; fact_2 = r.1.0; fact_3 = r.1.1 }
-    ]
+    let turned = going-all t.shape.columns t.shape.steps b.count t.rows (lands_in t.rows) (goals_in t.rows) t.costs b.sets g.dist.now _ _ l.i l.a l.here.sets l.path l.invariant _ (omega arith) c.arrive-2.ensures in
+    let few : get_or g.dist.now c.from.result 0 % tenth < limits.blocks = rw c.from.ensures c.requires.short in
+    let known = known-end t.shape.columns t.shape.steps b.count t.rows (lands_in t.rows) (goals_in t.rows) t.costs b.sets g.dist.now _ _ l.i l.a l.here.sets l.path l.invariant _ _ _ (omega arith) c.arrive-2.ensures (omega arith) in
+    let r = answers t b g.dist.now g.«from» g.path.now c.requires.made (search rules) _ _ _
+    (rw (c.at_start-here.ensures, c.from.ensures) at turned) known in
+    record { followed = r.0; known = r.1; right = r.2 }

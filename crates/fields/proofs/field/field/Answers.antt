@@ -1,27 +1,19 @@
-use borrow.Author.Rules.{rules}
-use native.Mathlib.Omega.{arith}
-use Prim.Native.Nat.{◌+◌}
-use mathlib.Core.Path.{◌≡◌}
-use Rattle.fields.specs.Bits.{field_at}
-use Rattle.fields.proofs.FieldLaws.{bit-lt, field-more, field_fits}
+use Rattle.std.proofs.Common.{◌-◌, arith}
+use Rattle.fields.proofs.FieldLaws.{bit-lt, field_none, field-next, field_fits}
 use Rattle.fields.proofs.field.field.Goals as goal
 
 pub loop-k-init : goal.loop-k-init
-unfolding field_at
-loop-k-init c = search rules
+loop-k-init c = field_none c.args.s.now c.args.at (omega arith)
 
 pub overflow_mul-v : goal.overflow_mul-v
 overflow_mul-v c =
     let a = c.args in
-    omega (arith, field_fits a.s.now a.at c.loop-k.k {m = 31} (omega arith))
+    omega (arith, c.loop-k.invariant, field_fits a.s.now a.at (c.loop-k.k - a.at) {m = 31} (omega arith))
 
 pub overflow_add-v : goal.overflow_add-v
 overflow_add-v c =
     let a = c.args in
-    omega (arith, field_fits a.s.now a.at c.loop-k.k {m = 31} (omega arith), bit-lt a.s.now (a.at + c.loop-k.k))
+    omega (arith, c.loop-k.invariant, field_fits a.s.now a.at (c.loop-k.k - a.at) {m = 31} (omega arith), bit-lt a.s.now c.loop-k.k)
 
 pub loop-k-preserved : goal.loop-k-preserved
-loop-k-preserved c = (omega arith, rw field-more (cc))
-
-pub returns : goal.returns
-returns c = let e : c.loop-k.k ≡ c.args.w = omega arith in cc
+loop-k-preserved c = omega (arith, c.loop-k.invariant, c.bit.ensures, field-next c.args.s.now {at = c.args.at} {k = c.loop-k.k} c.loop-k.auto.k)

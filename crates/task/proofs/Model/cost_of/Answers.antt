@@ -14,18 +14,19 @@ unfolding costs
 loop-i-init c = search rules
 
 pub bounds-self-at : goal.bounds-self-at
-bounds-self-at c = omega (arith, c.requires.1.1 c.loop-i.i c.loop-i-test.true, c.requires.0.steps)
+bounds-self-at c = omega (arith, c.requires.1.1 c.loop-i.i c.loop-i-test.true, c.requires.0.steps, c.from-at.ensures)
 
 pub loop-i-preserved : goal.loop-i-preserved
 loop-i-preserved c =
     let g = c.args in
+    let m = g.self.now in
     let i = c.loop-i.i in
     let l : length g.list ≡ most_steps = search (length-mapped, rules) in
-    let k = cost-of g.self _ (c.requires.1.1 i c.loop-i-test.true) in
-    (search rules, omega (arith, costs-more (task_of g.self) g.list i (omega arith), k))
+    let k = cost-of m _ (c.requires.1.1 i c.loop-i-test.true) in
+    let t = rw c.from-at.ensures at c.tenths-sum.ensures.0 in
+    (search rules, omega (arith, costs-more (task_of m) g.list i (omega arith), k, t))
 
 pub returns : goal.returns
 returns c =
-    let g = c.args in
-    let e : c.loop-i.i ≡ g.count = omega arith in
+    let e : c.loop-i.i ≡ c.args.count = omega arith in
     rw e at c.loop-i.invariant.1

@@ -1,31 +1,17 @@
-use mathlib.Core.Path.{◌≡◌, sym, ◌∙◌}
-use native.Mathlib.Nat.{zero-add}
-use native.Mathlib.Omega.{arith}
-use Rattle.task.specs.Task.{at}
-use Rattle.task.proofs.TableLaws.{row-none, row_more, row-fails, is-goal-row}
+use mathlib.Core.Path.{sym, ◌∙◌}
+use Prim.Native.Nat.{ℕ}
+use Rattle.std.specs.Prelude as maybe
 use borrow.Author.Rules.{rules}
+use lib.ListN.{get_or}
+use Rattle.task.specs.Task.{at, column, meets}
+use Rattle.task.specs.Tables.{marked}
+use Rattle.task.proofs.TableLaws.{is-goal-row}
+use Rattle.task.proofs.RangeLaws.{all-ran}
 use Rattle.task.proofs.Model.is_goal.Goals as goal
 
-pub loop-j-init : goal.loop-j-init
-loop-j-init c = (search rules, row-none _ _ _)
-
-pub returns-then-not-met : goal.returns-then-not-met
-unfolding at
-returns-then-not-met c =
-    let g = c.args in
-    sym (is-goal-row g.self g.state
-    ∙ row-fails g.self.goal 0 g.state g.self.columns c.loop-j.j c.loop-j-test.true (rw zero-add (sym c.met.ensures ∙ c.if-not-met.true)))
-
-pub loop-j-preserved : goal.loop-j-preserved
-unfolding at
-loop-j-preserved c =
-    let g = c.args in (
-      search rules,
-      row_more g.self.goal 0 g.state c.loop-j.j c.loop-j.invariant.1 (rw zero-add (sym c.met.ensures ∙ c.if-not-met.false)),
-    )
-
 pub returns : goal.returns
+unfolding at
 returns c =
     let g = c.args in
-    let e : c.loop-j.j ≡ g.self.columns = omega arith in
-    sym (is-goal-row g.self g.state ∙ (rw e at c.loop-j.invariant.1))
+    let m = g.self.now in
+    all-ran (λ (j : ℕ). meets (marked (get_or m.goal j maybe.None)) (at g.state (column j))) c.all.ensures.ran (λ x q k. search rules) (λ x q k. search rules) ∙ sym (is-goal-row m g.state)
