@@ -16,8 +16,7 @@ use Rattle.task.proofs.LoopLaws.{first_found, first_some, when-some}
 use Rattle.fields.specs.Judging.{each}
 use Rattle.fields.specs.Places.{puts}
 use Rattle.fields.proofs.JudgingLaws.{each_more}
-use Rattle.fields.proofs.PlaceLaws.{puts-append, puts-length}
-use Rattle.values.proofs.ValueLaws.{puts-part}
+use Rattle.fields.proofs.PlaceLaws.{puts-append, puts-length, puts-part}
 use borrow.Rule.Slice.PartMut.{put_mid}
 use Rattle.lines.specs.Lines.{width, decimal, labelled, space, line_end, row_line, Put}
 

@@ -18,6 +18,8 @@ unpacked s = unless_refused (judge_sheet s) (Done (model_of (of_sheet s))) Refus
 
 -- no model yet: nothing counted, and every place as one that a model does not use
 pub record Empty (m : Model) : Type 0 where
+  pub columns : m.columns ≡ 0
+  pub steps : m.steps ≡ 0
   pub size : m.size ≡ unused limits.columns 0
   pub start : m.start ≡ unused limits.columns (position 0)
   pub goal : m.goal ≡ unused limits.columns maybe.None

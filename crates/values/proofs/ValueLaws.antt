@@ -1,5 +1,5 @@
 -- Laws of values put as bytes.
-use Rattle.std.proofs.Common.{ℕ, ◌+◌, ◌-◌, ◌*◌, ◌≤◌, ◌≡◌, refl, sym, ap, ◌∙◌, List, [], ◌++◌, append_assoc, map, map-id, length, get_or, take, drop, length-append, length-take-le, take-append-drop, drop-drop, drop_of_length-le, append-nil, zero-add, ℤ, pos, negsuc, w32, of_z, to_z, SFits, to_z-of_z, arith}
+use Rattle.std.proofs.Common.{ℕ, ◌+◌, ◌-◌, ◌*◌, ◌≤◌, ◌≡◌, refl, sym, ap, ◌∙◌, List, [], ◌++◌, append_assoc, map, map-id, length, get_or, take, drop, length-take-le, drop_of_length-le, append-nil, ℤ, pos, negsuc, w32, of_z, to_z, SFits, to_z-of_z, arith}
 use mathlib.Core.List.{map-append}
 use lib.ListN.{length-map, get_or-append}
 use borrow.Rule.Slice.PartMut.{put_mid}
@@ -8,19 +8,8 @@ use Rattle.task.proofs.LoopLaws.{tab-length}
 use Rattle.fields.specs.Judging.{each}
 use Rattle.fields.specs.Places.{puts}
 use Rattle.fields.proofs.JudgingLaws.{each-ext}
-use Rattle.fields.proofs.PlaceLaws.{each-length, puts-append, puts-length, puts-next, puts-over}
+use Rattle.fields.proofs.PlaceLaws.{each-length, puts-length, puts-next, puts-over, puts-part}
 use Rattle.values.specs.Values.{value_bytes, bytes_at, bytes_of, twos, signed_bytes}
-
--- what a write to a part leaves
-pub puts-part : {A : Type 0} (at k : ℕ) (xs l : List A) → at + k ≤ length l → length xs ≡ k → put_mid at k l xs ≡ puts at xs l
-puts-part at k xs l h e =
-    let front = take at l in
-    let n : length front ≡ at = length-take-le at l (omega arith) in
-    let whole : puts 0 front l ≡ l = puts-over front l (omega arith) ∙ ap (λ (i : ℕ). front ++ drop i l) n ∙ take-append-drop at l in
-    let rest : drop (length (front ++ xs)) l ≡ drop k (drop at l) = ap (λ (i : ℕ). drop i l) (length-append front xs ∙ omega arith) ∙ sym (drop-drop k at l) in
-    sym
-    (ap (puts at xs) (sym whole) ∙ ap (λ (i : ℕ). puts i xs (puts 0 front l)) (sym (zero-add _ ∙ n)) ∙ sym (puts-append 0 front xs l)
-    ∙ puts-over (front ++ xs) l (omega (arith, length-append front xs)) ∙ append_assoc front xs _ ∙ ap (λ (y : List _). front ++ (xs ++ y)) rest)
 
 pub four : (vs : List ℕ) (i : ℕ) → length (bytes_at vs i) ≡ 4
 unfolding bytes_at value_bytes

@@ -4,4 +4,4 @@ use Rattle.unpack.proofs.empty.Goals as goal
 
 pub returns : goal.returns
 unfolding unused
-returns c = record { size = refl; start = refl; goal = refl; cost = refl; need = refl; effect = refl }
+returns c = record { columns = refl; steps = refl; size = refl; start = refl; goal = refl; cost = refl; need = refl; effect = refl }
