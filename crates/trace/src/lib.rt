@@ -35,13 +35,23 @@ fn may_take(tables: &Tables, blocks: &Blocks, dist: &Distances, a: usize, s: usi
     weigh(tables.costs[s]) <= dist[a] && fits_in(tables, s, blocks, a)
 }
 
-// Whether the hop leads out of block a, and the rest of a's distance is that of its block.
-fn fits(tables: &Tables, blocks: &Blocks, dist: &Distances, a: Block, hop: Hop, rest: u64) -> bool
-    requires { (a.0 < limits.blocks) × (hop.step.0 < limits.steps) × (hop.block.0 < limits.blocks) }
-    ensures { result ≡ (eqb (get_or dist.now hop.block.0 0) rest
-        && leads_by tables.now.shape.columns tables.now.rows (lands_in tables.now.rows) blocks.now.sets hop.step.0 a.0 hop.block.0) }
+// Whether the step leads from block a to block b, and the rest of a's distance is b's. The block is asked for by its place, as the loop has it, and made of it
+// only where the rest is its distance: nearly all blocks are passed over with that one test.
+fn fits(
+    tables: &Tables,
+    blocks: &Blocks,
+    dist: &Distances,
+    a: Block,
+    step: Step,
+    b: usize,
+    rest: u64,
+) -> bool
+    requires { (a.0 < limits.blocks) × (step.0 < limits.steps) × (b < limits.blocks) }
+    ensures { result ≡ (eqb (get_or dist.now b 0) rest
+        && leads_by tables.now.shape.columns tables.now.rows (lands_in tables.now.rows) blocks.now.sets step.0 a.0 b) }
 {
-    dist[usize::from(hop.block.0)] == rest && tables.leads(hop.step, a, hop.block, &blocks.sets)
+    // Here and below casts, since std has no From for them; nothing is lost.
+    dist[b] == rest && tables.leads(step, a, Block(b as u16), &blocks.sets)
 }
 
 // The lowest step and, for that step, the lowest block that keep the distance of block a.
@@ -58,14 +68,11 @@ pub fn next_hop(tables: &Tables, blocks: &Blocks, dist: &Distances, a: Block) ->
             continue;
         }
         let rest = after(dist[from], tables.costs[s]);
+        let step = Step(s as u8);
         for b in 0..blocks.count {
-            // Casts, since std has no From for them; nothing is lost.
-            let hop = Hop {
-                step: Step(s as u8),
-                block: Block(b as u16),
-            };
-            if fits(tables, blocks, dist, a, hop, rest) {
-                found = Some(hop);
+            if fits(tables, blocks, dist, a, step, b, rest) {
+                let block = Block(b as u16);
+                found = Some(Hop { step, block });
                 break 'steps;
             }
         }
