@@ -18,11 +18,11 @@ ghost use Rattle.asking.specs.Posing.{SizesOf, Posed, Answerable, Fillable};
 
 use cut_reading::{fill_cuts, judge_cut_sheet};
 use cut_sheets::cut_count;
-use cutting::Blocks;
+use cutting::{Blocks, block_of};
 use fields::refusal::Refusal;
 use masks::Tables;
 use preparing::prepare;
-use settling::fill_distances;
+use settling::{cost_at, fill_distances};
 use task::{Distances, Model, Position, State};
 
 // Whether each byte is a position of its column.
@@ -68,7 +68,8 @@ pub fn find_cost(count: usize, cuts: &[u32], dist: &Distances, state: &State) ->
     requires { Measured count cuts.now dist.now × Placed count cuts.now state.now }
     ensures { result ≡ cost_found dist.now cuts.now count state.now }
 {
-    settling::find_cost(count, cuts, dist, state)
+    let b = block_of(count, cuts, state);
+    cost_at(dist, b)
 }
 
 // One estimate for each state; places past the last stay as they are.

@@ -136,7 +136,7 @@ fn put_run(
             let next = put_first_line(Ok(answer), out);
             put_rows(rows, answer.row_count(), out, next)
         }
-        Err(refusal) => put_refused(refusal.number(), out),
+        Err(refusal) => put_first_line(Err(refusal), out),
     }
 }
 
@@ -146,7 +146,7 @@ pub fn put_printed(input: &[u8], out: &mut [u8]) -> usize
     ensures { Prints input.now out.old result out.new × IsPrefixLen result out.new }
 {
     if input.len() < 2 {
-        return put_refused(Refusal::Incomplete.number(), out);
+        return put_first_line(Err(Refusal::Incomplete), out);
     }
     let room = field(input, 0, 16);
     let mut cuts: PlaceValues = [0; (Model::BLOCKS - 1) * 3];

@@ -202,9 +202,9 @@ module _ {ts : Tables} {spare : ℕ} {cuts₀ : List ℕ} {bs₀ : Blocks} (few 
       pub run-full : spare ≡ made → (t : Task) → Tabled t ts → Uncut t ts.shape.columns bs₀ → RunEnds (refine t spare []) o ts.shape.steps cuts₀ cuts path
       run-full h t g m = rw w (ends-full t ts g spare few cuts₀ room (r.grown t g m) (omega arith) ts.shape.steps l path (looked t g m) k h)
 
-      pub run-early : made < spare → cut_of (look_of l path) ≡ none → (t : Task) → Tabled t ts → Uncut t ts.shape.columns bs₀
+      pub run-early : made ≤ spare → cut_of (look_of l path) ≡ none → (t : Task) → Tabled t ts → Uncut t ts.shape.columns bs₀
           → RunEnds (refine t spare []) o ts.shape.steps cuts₀ cuts path
-      run-early h n t g m = rw w (ends-early t ts g spare few cuts₀ room (r.grown t g m) (omega arith) ts.shape.steps l path (looked t g m) k n)
+      run-early h n t g m = rw w (ends-early t ts g spare few cuts₀ room (r.grown t g m) h ts.shape.steps l path (looked t g m) k n)
 
 -- a look that is no flaw asks for no cut
 pub no-flaw : (l : code.Seen) (path : List Step) → ((e : Tenths) (c : Cut) → l ≡ Flaw e c → ⊥) → cut_of (look_of l path) ≡ none

@@ -1,2 +1,3 @@
 pub mod FillLaws
+pub mod LentLaws
 pub mod RowRunLaws

@@ -143,6 +143,15 @@ pub fn fill_distances(tables: &Tables, blocks: &Blocks, dist: &mut Distances)
     settle(tables, blocks, &mut done, &mut arcs, dist);
 }
 
+// The cost of a block's distance, in a table.
+pub fn cost_at(dist: &Distances, b: Block) -> u32
+    requires { (b.0 < limits.blocks) × (get_or dist.now b.0 0 / tenth ≤ limits.no_way) }
+    ensures { result ≡ get_or dist.now b.0 0 / tenth }
+{
+    // A cast, since std has no From for it; nothing is lost.
+    (dist[usize::from(b.0)] / Model::TENTH) as u32
+}
+
 // The cost from a state on: that of its block, in a table of distances.
 pub fn find_cost<S: Followed>(count: usize, cuts: &[u32], dist: &Distances, state: &S) -> u32
     requires measured { Measured count cuts.now dist.now }
@@ -150,6 +159,5 @@ pub fn find_cost<S: Followed>(count: usize, cuts: &[u32], dist: &Distances, stat
     ensures { result ≡ get_or dist.now (followed_by (S.has_of state.now) cuts.now count) 0 / tenth }
 {
     let b = follow(count, cuts, state);
-    // A cast, since std has no From for it; nothing is lost.
-    (dist[usize::from(b.0)] / Model::TENTH) as u32
+    cost_at(dist, b)
 }

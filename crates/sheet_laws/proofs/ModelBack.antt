@@ -81,7 +81,12 @@ module _ (p q : Source) (e : Same p q (columns_in q) (steps_in q)) where
         effect = (ap₂ (λ (x y : ℕ). mark_table (λ j i. (p.marks j i).effect.value) x y) count-columns count-steps ∙ same-table p q n m e (λ j i. (p.marks j i).effect.value) (λ j i. (q.marks j i).effect.value) (λ j i h l. ap (λ (f : MarkFields). f.effect.value) (e.marks j i h l))) k;
       }
 
--- the sheet of accepted fields is read as their model
+-- the sheet of accepted fields holds their model: that is what a run, a question and a replay read of it
+pub model-held : (p : Source) → judged (entries p) ≡ 0 → ((j : ℕ) → j < steps_in p → (p.cost j).value < 2 ^ 16) → model_of (of_sheet (sheet_of (entries p))) ≡ model_of p
+unfolding entries
+model-held p ok costs = same-model (of_sheet (sheet_of (entries p))) p (written_same p ok costs)
+
+-- so it is read as their model
 pub model-back : (p : Source) → judged (entries p) ≡ 0 → ((j : ℕ) → j < steps_in p → (p.cost j).value < 2 ^ 16) → unpacked (sheet_of (entries p)) ≡ Done (model_of p)
 unfolding unpacked entries
-model-back p ok costs = simp (eq-eqb _ 0 (written-accepted p ok costs)) (ap Done (same-model (of_sheet (sheet_of (entries p))) p (written_same p ok costs)))
+model-back p ok costs = simp (eq-eqb _ 0 (written-accepted p ok costs)) (ap Done (model-held p ok costs))

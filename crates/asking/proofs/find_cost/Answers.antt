@@ -1,16 +1,22 @@
-use Prim.Native.Nat.{ℕ, ◌/◌}
+use native.Mathlib.Omega.{arith}
+use Prim.Native.Nat.{ℕ, ◌/◌, ◌≤◌}
 use mathlib.Core.Path.{ap, ◌∙◌}
 use lib.ListN.{get_or}
 use Rattle.task.specs.Sizes.{tenth}
 use Rattle.asking.specs.Question.{cost_found}
-use Rattle.blocks.proofs.FollowLaws.{by-state}
+use Rattle.blocks.proofs.FollowLaws.{followed-most}
 use Rattle.asking.proofs.find_cost.Goals as goal
 
-pub find_cost-requires : goal.find_cost-requires
-find_cost-requires c = record { measured = c.requires.0; placed = c.requires.1.each }
+pub block_of-b-requires : goal.block_of-b-requires
+block_of-b-requires c = (c.requires.0.follows, c.requires.1)
+
+pub cost_at-requires : goal.cost_at-requires
+cost_at-requires c =
+    let g = c.args in
+    let m = c.requires.0 in
+    let made : c.block_of-b.result.0 ≤ g.count = omega (arith, c.block_of-b.ensures.followed, followed-most g.cuts.now g.state.now g.count) in
+    (omega (arith, m.follows.few, made), m.costs c.block_of-b.result.0 made)
 
 pub returns : goal.returns
 unfolding cost_found
-returns c =
-    let g = c.args in
-    c.find_cost.ensures ∙ ap (λ (a : ℕ). get_or g.dist.now a 0 / tenth) (by-state g.cuts.now g.state.now g.count)
+returns c = c.cost_at.ensures ∙ ap (λ (a : ℕ). get_or c.args.dist.now a 0 / tenth) c.block_of-b.ensures.followed

@@ -1,3 +1,4 @@
+use native.Mathlib.Omega.{arith}
 use Rattle.std.proofs.Common.{refl, rules}
 use Rattle.replay.specs.Replay.{row_count}
 use Rattle.historian.specs.ReplayEntry.{replay_number}
@@ -8,8 +9,9 @@ pub put_values-requires : goal.put_values-requires
 unfolding row_count replay_number
 put_values-requires c =
     let g = c.args in
-    rows-go g.log.now g.steps.now g.rows.now g.list.now c.told-steps c.told-list c.min-n.ensures c.min-m.ensures c.get_values.ensures g.model.now g.sheet.now
-    c.in-Ok.ensures refl
+    let h = rows-go g.log.now g.steps.now g.rows.now g.list.now c.told-steps c.told-list c.min-n.ensures c.min-m.ensures c.get_values.ensures g.model.now g.sheet.now
+    c.in-Ok.ensures refl in
+    record { room = omega (arith, h.room); given = omega (arith, h.given) }
 
 pub returns-in-Ok : goal.returns-in-Ok
 unfolding row_count replay_number

@@ -9,7 +9,7 @@ pub returns-in_default : goal.returns-in_default
 returns-in_default c =
     let p = c.requires in
     let e = c.look-seen.ensures in
-    run-early p.few p.room c.loop-made.invariant _ _ e.looked e.known c.end.ensures c.loop-made-test.true (no-flaw _ _ (λ n d f. absurd (c.in_default.not-Flaw n d f)))
+    run-early p.few p.room c.loop-made.invariant _ _ e.looked e.known c.end.ensures (omega (arith, c.loop-made-test.true)) (no-flaw _ _ (λ n d f. absurd (c.in_default.not-Flaw n d f)))
 
 pub start_block-from-requires : goal.start_block-from-requires
 start_block-from-requires c =
