@@ -4,13 +4,12 @@
 // With the archive that tools/build writes:
 //     rustc -O --cfg library --out-dir target/bench bench/question.rs -L target/staticlib -lhistorian && target/bench/question
 // Before there is one: in a copy of the repository, a crate `ask` (in crates.txt as `ask staticlib: asking`) of
-//     use asking::Asked;
 //     use asking::question;
 //     #[unsafe(no_mangle)]
 //     pub extern "C" fn question_numbers(model: &[u8], sheet: &[u8], states: &[u8], estimates: &mut [u32]) -> u32 {
 //         match question(model, sheet, states, estimates) {
-//             Asked::Estimates(_) => 0,
-//             Asked::Refused(r) => r as u32,
+//             Ok(_) => 0,
+//             Err(refusal) => u32::from(refusal.number()),
 //         }
 //     }
 // built by `rt lib` in crates/ask, and then
